@@ -1,5 +1,6 @@
 -- The order of the versions of an input, and of the runs of a file.
-use Rattle.std.proofs.Common.{◌≡◌, inl, inr, ⊎_elim, ℕ, ◌+◌, ◌-◌, ◌≤◌, ◌<◌, ◌^◌, ◌&&◌, nat_lt, Bool, true, false, cond, List, [], ◌∷◌, ◌++◌}
+use Rattle.std.proofs.Common.{◌≡◌, inl, inr, ⊎_elim, ℕ, ◌+◌, ◌-◌, ◌≤◌, ◌<◌, ◌^◌, ◌&&◌, nat_lt, Bool, true, false, cond, List, [], ◌∷◌}
+use Rattle.std.proofs.Common.{◌++◌}
 use Rattle.std.proofs.Common.{Option, Some, None, IfSome, is_some, Result, Ok, Err, length, take, drop, refl, sym, ap, ◌∙◌, subst, arith}
 use Rattle.std.proofs.Common.{length-append, length-drop, length-take}
 use Rattle.std.proofs.Math.Seq.{take-append_seam}
@@ -15,7 +16,7 @@ use Rattle.osm_files.specs.declared.fault.Fault.{Fault}
 use Rattle.osm_files.specs.declared.sorted_run.BytesAtSplit.{BytesAtSplit}
 use Rattle.osm_files.specs.declared.sorted_run.SortedRun.{SortedRun}
 use Rattle.osm_files.specs.FileRuns.{GivesSortedFile, IsSortedRun, EndsWhole, StopsSource, IfWhole, IsAccepted}
-use Rattle.osm_files.specs.FileRuns.{IsFirstUnsorted, IsFirstUnsortedIn, IsRefusalOf, IsOrderOf}
+use Rattle.osm_files.specs.FileRuns.{IsFirstUnsorted, IsFirstUnsortedIn, IsReadFailure, IsRefusalOf, IsOrderOf}
 use Rattle.osm_files.specs.Groups.{FileCanGive, new_source, sorted_source}
 use Rattle.osm_files.specs.Held.{HoldsSorted}
 use Rattle.osm_files.specs.Input.{InputRest, GivesOne}
@@ -135,7 +136,8 @@ module _ (file : List ℕ) (run : SortedRun) (offset : ℕ) (bytes : BytesAtSpli
 
   rest_is_accepted : (t : Bool) → is_o5_run run bytes ≡ t → (t ≡ true → IsSortedRun file (front_run t run offset))
       → IsAccepted (run_bytes run file) → IsAccepted (run_bytes (rest_run t run offset) file)
-  rest_is_accepted true is sets all = sets_after _ _ _ (splits_by run offset bytes file has can true is) (sorted_accepted _ (sets refl)) all
+  rest_is_accepted true is sets all = sets_after _ _ _ (splits_by run offset bytes file has can true is) (sorted_accepted _ (sets refl))
+      all
   rest_is_accepted false is sets all = lines_rest _ _ _ (splits_by run offset bytes file has can false is) all
 
 -- ---- a file that is split once more
@@ -249,74 +251,84 @@ found_nothing (Some all) size first fits = λ whole.
     }
 
 -- the order of a run, if its first version out of order is known or was read
-abbrev pub Knows : Option (List ℕ) → ℕ → SortedRun → Option ℕ → Result (Option ℕ) Fault → Type 0
-Knows file size run known result = IfSome known (λ offset. result ≡ Ok (Some offset))
-    × (known ≡ None → IfWhole file size (λ all. IsOrderOf all run result))
+abbrev pub Knows : Type 0 → Option (List ℕ) → ℕ → SortedRun → Option ℕ → Result (Option ℕ) Fault → Type 0
+Knows Fails file size run known result = IfSome known (λ offset. result ≡ Ok (Some offset))
+    × (known ≡ None → IfWhole file size (λ all. IsOrderOf Fails all run result))
 
 -- The order of a run is that of an equal one.
-pub knows : (file : Option (List ℕ)) (size : ℕ) (run rest : SortedRun) (told known : Option ℕ) (result now : Result (Option ℕ) Fault)
+pub knows : (Fails : Type 0) (file : Option (List ℕ)) (size : ℕ) (run rest : SortedRun) (told known : Option ℕ) (result now : Result
+    (Option ℕ) Fault)
     → run ≡ rest → told ≡ known → result ≡ now → IfSome told (λ offset. result ≡ Ok (Some offset))
-    → (told ≡ None → IfWhole file size (λ all. IsOrderOf all run result)) → Knows file size rest known now
-knows file size run rest told known result now is same left first order =
-    subst (λ (r : SortedRun). Knows file size r known now) is
-    (subst (λ (o : Option ℕ). Knows file size run o now) same
-    (subst (λ (r : Result (Option ℕ) Fault). Knows file size run told r) left (first, order)))
+    → (told ≡ None → IfWhole file size (λ all. IsOrderOf Fails all run result)) → Knows Fails file size rest known now
+knows Fails file size run rest told known result now is same left first order =
+    subst (λ (r : SortedRun). Knows Fails file size r known now) is
+    (subst (λ (o : Option ℕ). Knows Fails file size run o now) same
+    (subst (λ (r : Result (Option ℕ) Fault). Knows Fails file size run told r) left (first, order)))
 
-unsorted_by : (all : List ℕ) (size : ℕ) (runs : FileRuns) (known : Option ℕ) (offset : ℕ) → length all ≡ size
-    → offset < 2 ^ 64 → Knows (Some all) size runs.rest known (let r : _ = Ok (Some offset) in r)
+unsorted_by : (Fails : Type 0) (all : List ℕ) (size : ℕ) (runs : FileRuns) (known : Option ℕ) (offset : ℕ) → length all ≡ size
+    → offset < 2 ^ 64 → Knows Fails (Some all) size runs.rest known (let r : _ = Ok (Some offset) in r)
     → IfSome known (λ first. first < 2 ^ 64 → IsFirstUnsortedIn all runs.rest first) → IsFirstUnsortedIn all runs.rest offset
-unsorted_by all size runs None offset whole small (told, read) before = read refl whole
-unsorted_by all size runs (Some known) offset whole small (told, read) before =
+unsorted_by Fails all size runs None offset whole small (told, read) before = read refl whole
+unsorted_by Fails all size runs (Some known) offset whole small (told, read) before =
     let same : offset ≡ known = (let f : Ok (Some offset) ≡ Ok (Some known) = told in cc) in
     subst (λ (first : ℕ). first < 2 ^ 64 → IsFirstUnsortedIn all runs.rest first) (sym same) before small
 
 -- A split at the first version out of order leaves runs that are found.
-pub found_more : (file : Option (List ℕ)) (size : ℕ) (first known : Option ℕ) (old new : FileRuns) (offset : ℕ) → offset < 2 ^ 64
-    → IfWhole file size (λ all. Found all first known old) → Knows file size old.rest known (let r : _ = Ok (Some offset) in r)
-    → IfWhole file size (λ all. IsFirstUnsortedIn all old.rest offset → All (IsSortedRun all) old.fronts → All (IsSortedRun all) new.fronts)
+pub found_more : (Fails : Type 0) (file : Option (List ℕ)) (size : ℕ) (first known : Option ℕ) (old new : FileRuns) (offset : ℕ)
+    → offset < 2 ^ 64
+    → IfWhole file size (λ all. Found all first known old) → Knows Fails file size old.rest known (let r : _ = Ok (Some offset) in r)
+    → IfWhole file size (λ all. IsFirstUnsortedIn all old.rest offset → All (IsSortedRun all) old.fronts
+    → All (IsSortedRun all) new.fronts)
     → IfWhole file size (λ all. IsAccepted (run_bytes old.rest all) → IsAccepted (run_bytes new.rest all))
     → IfWhole file size (λ all. Found all first None new)
-found_more None size first known old new offset small found knows fronts rest = tt
-found_more (Some all) size first known old new offset small found knows fronts rest = λ whole.
+found_more Fails None size first known old new offset small found knows fronts rest = tt
+found_more Fails (Some all) size first known old new offset small found knows fronts rest = λ whole.
     let before = found whole in
     record {
-      sorted = λ right. fronts whole (unsorted_by all size old known offset whole small knows (before.unsorted right)) (before.sorted
+      sorted = λ right. fronts whole (unsorted_by Fails all size old known offset whole small knows (before.unsorted right)) (before.sorted
           right);
       unsorted = λ right. tt;
       rest = λ accepted. rest whole (before.rest accepted);
     }
 
-sorted_by : (all : List ℕ) (size : ℕ) (runs : FileRuns) (known : Option ℕ) → length all ≡ size
-    → Knows (Some all) size runs.rest known (let r : _ = Ok None in r) → IsSortedRun all runs.rest
-sorted_by all size runs None whole (told, read) = read refl whole
-sorted_by all size runs (Some known) whole (told, read) = absurd (let f : Ok None ≡ Ok (Some known) = told in cc)
+sorted_by : (Fails : Type 0) (all : List ℕ) (size : ℕ) (runs : FileRuns) (known : Option ℕ) → length all ≡ size
+    → Knows Fails (Some all) size runs.rest known (let r : _ = Ok None in r) → IsSortedRun all runs.rest
+sorted_by Fails all size runs None whole (told, read) = read refl whole
+sorted_by Fails all size runs (Some known) whole (told, read) = absurd (let f : Ok None ≡ Ok (Some known) = told in cc)
 
-module _ (file : Option (List ℕ)) (size : ℕ) (old : FileRuns) (known : Option ℕ) where
+module _ (Fails : Type 0) (file : Option (List ℕ)) (size : ℕ) (old : FileRuns) (known : Option ℕ) where
   -- If the rest is found to be a sorted file, all runs are sorted files.
   pub all_sorted : (first : Option ℕ) → IfWhole file size (λ all. Found all first known old)
-      → Knows file size old.rest known (let r : _ = Ok None in r) → (runs : List SortedRun) → runs ≡ runs_of old
+      → Knows Fails file size old.rest known (let r : _ = Ok None in r) → (runs : List SortedRun) → runs ≡ runs_of old
       → IfWhole file size (λ all. IfSome first (IsFirstUnsorted all) → All (IsSortedRun all) runs)
   all_sorted first = elim file as (λ o. IfWhole o size (λ all. Found all first known old)
-      → Knows o size old.rest known (let r : _ = Ok None in r) → (runs : List SortedRun) → runs ≡ runs_of old
+      → Knows Fails o size old.rest known (let r : _ = Ok None in r) → (runs : List SortedRun) → runs ≡ runs_of old
       → IfWhole o size (λ all. IfSome first (IsFirstUnsorted all) → All (IsSortedRun all) runs)) [
         | None ↦ λ found knows runs are. tt
         | Some all ↦ λ found knows runs are whole right.
             subst (All (IsSortedRun all)) (sym are)
             (All-append (IsSortedRun all) old.fronts (old.rest ∷ []) ((found whole).sorted right)
-            (All-cons (IsSortedRun all) old.rest [] (sorted_by all size old known whole knows) (All-nil (IsSortedRun all))))
+            (All-cons (IsSortedRun all) old.rest [] (sorted_by Fails all size old known whole knows) (All-nil (IsSortedRun all))))
       ]
 
-refused_by : (all : List ℕ) (size : ℕ) (first known : Option ℕ) (runs : FileRuns) (fault : Fault) → length all ≡ size
-    → Found all first known runs → Knows (Some all) size runs.rest known (let r : _ = Err fault in r) → IsRefusalOf all fault
-refused_by all size first None runs fault whole found (told, read) =
+refused_by : (Fails : Type 0) (all : List ℕ) (size : ℕ) (first known : Option ℕ) (runs : FileRuns) (fault : Fault) → length all ≡ size
+    → Found all first known runs → Knows Fails (Some all) size runs.rest known (let r : _ = Err fault in r) → IsRefusalOf Fails all fault
+refused_by Fails all size first None runs fault whole found (told, read) =
     ⊎_elim (λ failure. inl failure) (λ never. inr (λ accepted. never (found.rest accepted))) (read refl whole)
-refused_by all size first (Some known) runs fault whole found (told, read) =
+refused_by Fails all size first (Some known) runs fault whole found (told, read) =
     absurd (let r : Result (Option ℕ) Fault = Err fault in let f : r ≡ Ok (Some known) = told in cc)
 
 -- A refusal of the rest is a refusal of the file.
-pub refused_rest : (file : Option (List ℕ)) (size : ℕ) (first known : Option ℕ) (runs : FileRuns) (fault : Fault)
-    → IfWhole file size (λ all. Found all first known runs) → Knows file size runs.rest known (let r : _ = Err fault in r)
-    → IfWhole file size (λ all. IsRefusalOf all fault)
-refused_rest None size first known runs fault found knows = tt
-refused_rest (Some all) size first known runs fault found knows = λ whole. refused_by all size first known runs fault whole (found whole)
+pub refused_rest : (Fails : Type 0) (file : Option (List ℕ)) (size : ℕ) (first known : Option ℕ) (runs : FileRuns) (fault : Fault)
+    → IfWhole file size (λ all. Found all first known runs) → Knows Fails file size runs.rest known (let r : _ = Err fault in r)
+    → IfWhole file size (λ all. IsRefusalOf Fails all fault)
+refused_rest Fails None size first known runs fault found knows = tt
+refused_rest Fails (Some all) size first known runs fault found knows = λ whole. refused_by Fails all size first known runs fault whole
+    (found whole)
     knows
+
+-- A failure to read is a refusal of the file.
+pub failed_rest : (Fails : Type 0) (file : Option (List ℕ)) (size : ℕ) (fault : Fault)
+    → IfWhole file size (λ all. IsReadFailure Fails fault) → IfWhole file size (λ all. IsRefusalOf Fails all fault)
+failed_rest Fails None size fault failed = tt
+failed_rest Fails (Some all) size fault failed = λ whole. inl (failed whole)

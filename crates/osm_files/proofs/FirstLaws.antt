@@ -62,6 +62,11 @@ reads_lines : (place : ℕ) (bytes : List ℕ) → ReadsAs (units None InOpl pla
 unfolding units
 reads_lines place bytes = opl_reads (length bytes) bytes place (omega arith)
 
+-- the versions that are read in the lines of an OPL file are those that the file spells
+pub lines_read : (bytes : List ℕ) (versions : List VersionData) → OplFile bytes versions →
+    versions_of (units None InOpl 0 bytes).list ≡ versions
+lines_read bytes versions file = ((reads_lines 0 bytes).read versions file).1
+
 not_refused : {E F : Type 0} (f : E → F) (refusal : Option E) (x : F) → option_map f refusal ≡ Some x → refusal ≡ None → ⊥
 not_refused f refusal x is none = some_is_not_none x (sym is ∙ ap (option_map f) none)
 

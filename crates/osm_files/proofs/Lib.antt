@@ -26,7 +26,7 @@ pub mod SpellSteps
 pub mod SinkLaws
 pub mod SpellLaws
 pub mod StartLaws
-mod SplitLaws
+pub mod SplitLaws
 pub mod RangeLaws
 pub mod LineLists
 mod LineStarts
@@ -38,7 +38,7 @@ mod ExtentLaws
 mod OpenLaws
 pub mod RunBytes
 mod UnsortedLaws
-mod RunOrderLaws
+pub mod RunOrderLaws
 pub mod JoinLaws
 mod RestLaws
 mod FileRunLaws

@@ -1,9 +1,9 @@
 -- The order of a run's versions, and the refusals of a run, by what its input gave.
 use Rattle.std.proofs.Common.{◌≡◌, ◌⊎◌, inl, inr, ⊎_elim, ℕ, ◌+◌, ◌-◌, ◌≤◌, ◌<◌, ◌^◌, nat_lt, Bool, true, false, cond, List, []}
 use Rattle.std.proofs.Common.{◌∷◌, ◌++◌, length, take, refl, sym, ap, ◌∙◌, subst, arith, Option, Some, None, option_map}
-use Rattle.std.proofs.Common.{append-nil, append_assoc, length-append}
+use Rattle.std.proofs.Common.{append-nil, append_assoc, length-append, length-drop, drop, min}
 use Rattle.std.proofs.Math.Seq.{take-append-add}
-use Rattle.std.proofs.lemmas.Bool.{cases_lt}
+use Rattle.std.proofs.lemmas.Bool.{cases_lt, false≢true, ltb-true}
 use Rattle.std.proofs.lemmas.Bool.Decides.{nat_tests}
 use Rattle.std.proofs.lemmas.List.{take-append-le}
 use Rattle.osm_files.specs.declared.fault.Fault.{Fault}
@@ -17,15 +17,16 @@ use Rattle.osm_files.specs.Groups.{sorted_source}
 use Rattle.osm_files.specs.Held.{HoldsSorted}
 use Rattle.osm_files.specs.Input.{InputRest, GivesOne}
 use Rattle.osm_files.specs.Load.{StopsOpening}
-use Rattle.osm_files.specs.LoadLaws.{broken_after}
-use Rattle.osm_files.specs.Position.{fault_of}
+use Rattle.osm_files.specs.LoadLaws.{broken_after, is_verdict_reason}
+use Rattle.osm_files.specs.Position.{fault_of, units_from, with_input}
 use Rattle.osm_files.specs.SortedRun.{bytes_before, bytes_after, run_bytes, offset_in_file}
 use Rattle.osm_files.specs.SourceLaws.{verdict_within}
 use Rattle.osm_files.specs.Stream.{Verdict, verdict_at, SourceRest, Placed}
 use Rattle.osm_files.specs.Units.{units, start_of}
 use Rattle.osm_files.specs.Verdict.{length_limit, too_long_verdict, file_units, sorted_verdict, verdict, verdict_sorted}
-use Rattle.osm_files.proofs.FaultyLaws.{faulty_or_closed, faulty_stays}
+use Rattle.osm_files.proofs.FaultyLaws.{faulty_or_closed, faulty_stays, malformed_stays}
 use Rattle.osm_files.proofs.FileLaws.{files_are_read, verdict_without_order}
+use Rattle.osm_files.proofs.LoadFaults.{inputs_are_files, broken_inputs, reasons_of_verdicts}
 use Rattle.osm_files.proofs.HoldLaws.{whole_refusal, broken_source_ends, long_source_ends}
 use Rattle.osm_files.proofs.ReadingLaws.{fault_is}
 use Rattle.osm_files.proofs.RunBytes.{run_given}
@@ -90,13 +91,24 @@ long_stays bytes more many =
     (long_units (bytes ++ more) longer ∙ (λ i. units (Some too_long_verdict) (starts i) 0 (window i)) ∙ sym (long_units bytes many))
 
 -- the fault is a failure to read, or the verdict on order of these bytes
-abbrev pub Refuses : ℕ → List ℕ → Fault → Type 0
-Refuses input bytes fault = IsReadFailure fault ⊎ ((v : Verdict) × (verdict_sorted bytes ≡ Some v) × (fault ≡ fault_of input v))
+abbrev pub Refuses : Type 0 → ℕ → List ℕ → Fault → Type 0
+Refuses Fails input bytes fault =
+    IsReadFailure Fails fault ⊎ ((v : Verdict) × (verdict_sorted bytes ≡ Some v) × (fault ≡ fault_of input v))
 
-module _ (input : ℕ) (bytes more : List ℕ) (fault : Fault) where
+-- Reads of a file fail if a run of it gives fewer bytes than it has.
+pub broken_fails : (Fails : Type 0) (all : List ℕ) (run : SortedRun) (size : ℕ) (c : InputRest) → length all ≡ size
+    → GivesRun Fails (Some all) run size c → c.broken ≡ true → Fails
+broken_fails Fails all run size c whole (given, gives, is) broken =
+    let part : ℕ = min (run.start + run.size) size - run.start in
+    let short = ltb-true (length given.bytes) part (sym gives.broken ∙ ap (λ c. c.broken) (sym is) ∙ broken) in
+    ⊎_elim (λ fails. fails)
+    (λ last. absurd (omega (arith, short, whole, ap length last, length-drop run.start all)))
+    (gives.why short)
+
+module _ (Fails : Type 0) (fails : Fails) (input : ℕ) (bytes more : List ℕ) (fault : Fault) where
   short_refuses : length bytes < 2 ^ 62
       → option_map (fault_of input) (verdict_within (verdict_at (length bytes) ReadFault) bytes) ≡ Some fault
-      → Refuses input (bytes ++ more) fault
+      → Refuses Fails input (bytes ++ more) fault
   short_refuses short e =
       let close : Verdict = verdict_at (length bytes) ReadFault in
       let found = mapped_fault input (verdict_within close bytes) fault e in
@@ -107,10 +119,10 @@ module _ (input : ℕ) (bytes more : List ℕ) (fault : Fault) where
       (λ closed. (
       let same : Some close ≡ Some found.0 = sym (closed close) ∙ found.1 in
       let is : close ≡ found.0 = cc in
-      inl (inr (ap (λ f. f.reason) found.2 ∙ ap (λ v. v.reason) (sym is)))))
+      inl (inr (fails, ap (λ f. f.reason) found.2 ∙ ap (λ v. v.reason) (sym is)))))
       (faulty_or_closed bytes)
 
-  broken_refuses : (sorted_source input (broken_after bytes)).refusal ≡ Some fault → Refuses input (bytes ++ more) fault
+  broken_refuses : (sorted_source input (broken_after bytes)).refusal ≡ Some fault → Refuses Fails input (bytes ++ more) fault
   broken_refuses e =
       ⊎_elim
       (λ short. short_refuses short (sym (broken_source_ends input bytes short) ∙ e))
@@ -122,56 +134,81 @@ module _ (input : ℕ) (bytes more : List ℕ) (fault : Fault) where
 
 given_refuses : (Fails : Type 0) (all : List ℕ) (run : SortedRun) (size : ℕ) (input : ℕ) (fault : Fault) (bytes : List ℕ) (broken : Bool)
     → length all ≡ size → GivesRun Fails (Some all) run size (record { bytes = bytes; broken = broken })
-    → (sorted_source input (record { bytes = bytes; broken = broken })).refusal ≡ Some fault → Refuses input (run_bytes run all) fault
+    → (sorted_source input (record { bytes = bytes; broken = broken })).refusal ≡ Some fault → Refuses Fails input (run_bytes run all) fault
 given_refuses Fails all run size input fault bytes true whole gives e =
     let front = run_front Fails all run size bytes gives in
-    subst (λ xs. Refuses input xs fault) (sym front.1) (broken_refuses input bytes front.0 fault e)
+    let fails = broken_fails Fails all run size (broken_after bytes) whole gives refl in
+    subst (λ xs. Refuses Fails input xs fault) (sym front.1) (broken_refuses Fails fails input bytes front.0 fault e)
 given_refuses Fails all run size input fault bytes false whole gives e =
     let found = mapped_fault input (verdict_sorted bytes) fault (sym (whole_refusal input bytes) ∙ e) in
     let same : bytes ≡ run_bytes run all = run_given Fails all run size (record { bytes = bytes; broken = false }) whole gives refl in
     inr (found.0, ap verdict_sorted (sym same) ∙ found.1, found.2)
 
 -- A run whose source is refused has the refusal as its verdict on order, or a read failed.
-run_refuses : (Fails : Type 0) (all : List ℕ) (run : SortedRun) (size : ℕ) (input : ℕ) (fault : Fault) → length all ≡ size
-    → GivesOne (GivesRun Fails (Some all) run size) (λ c. StopsOpening input c fault) → Refuses input (run_bytes run all) fault
+pub run_refuses : (Fails : Type 0) (all : List ℕ) (run : SortedRun) (size : ℕ) (input : ℕ) (fault : Fault) → length all ≡ size
+    → GivesOne (GivesRun Fails (Some all) run size) (λ c. StopsOpening input c fault) → Refuses Fails input (run_bytes run all) fault
 run_refuses Fails all run size input fault whole (c, gives, inl memory) = inl (inl memory)
 run_refuses Fails all run size input fault whole (c, gives, inr e) =
     given_refuses Fails all run size input fault c.bytes c.broken whole gives e
 
 -- ---- the result of reading a run
 -- bytes with a verdict are no file
-verdict_refuses : (bytes : List ℕ) (v : Verdict) → verdict_sorted bytes ≡ Some v → (v.reason ≡ Unsorted → ⊥) → IsAccepted bytes → ⊥
+pub verdict_refuses : (bytes : List ℕ) (v : Verdict) → verdict_sorted bytes ≡ Some v → (v.reason ≡ Unsorted → ⊥) → IsAccepted bytes → ⊥
 verdict_refuses bytes v e other (held, holds) =
     let none : verdict bytes ≡ None = (files_are_read bytes holds.versions holds.short holds.file).0 in
     (let f : None ≡ Some v = sym none ∙ verdict_without_order bytes v e other in cc)
 
 -- a fault at another offset is a failure to read if it was one
-moved_failure : (input place : ℕ) (fault : Fault) → IsReadFailure fault → IsReadFailure (fault_at input place fault.reason)
-moved_failure input place fault failure =
+moved_failure : (Fails : Type 0) (input place : ℕ) (fault : Fault) → IsReadFailure Fails fault
+    → IsReadFailure Fails (fault_at input place fault.reason)
+moved_failure Fails input place fault failure =
     ⊎_elim (λ memory. inl memory)
     (λ is. ⊎_elim (λ memory. inl (ap (λ f. fault_at input place f.reason) memory))
-    (λ read. inr (ap (λ f. f.reason) is ∙ read)) failure)
+    (λ read. inr (read.0, ap (λ f. f.reason) is ∙ read.1)) failure)
     (fault_is input place fault.reason)
 
 -- a failure to read isn't Unsorted
-failure_is_other : (fault : Fault) → IsReadFailure fault → fault.reason ≡ Unsorted → ⊥
-failure_is_other fault (inl memory) e = (let f : Memory ≡ Unsorted = ap (λ f. f.reason) (sym memory) ∙ e in cc)
-failure_is_other fault (inr read) e = (let f : ReadFault ≡ Unsorted = sym read ∙ e in cc)
+failure_is_other : (Fails : Type 0) (fault : Fault) → IsReadFailure Fails fault → fault.reason ≡ Unsorted → ⊥
+failure_is_other Fails fault (inl memory) e = (let f : Memory ≡ Unsorted = ap (λ f. f.reason) (sym memory) ∙ e in cc)
+failure_is_other Fails fault (inr (fails, read)) e = (let f : ReadFault ≡ Unsorted = sym read ∙ e in cc)
 
-module _ (all : List ℕ) (run : SortedRun) (input offset : ℕ) (fault : Fault) where
+-- a verdict isn't ReadFault
+verdict_is_other : (bytes : List ℕ) (v : Verdict) → verdict_sorted bytes ≡ Some v → v.reason ≡ ReadFault → ⊥
+verdict_is_other bytes v e read =
+    ⊎_elim (λ unsorted. (let f : ReadFault ≡ Unsorted = sym read ∙ unsorted in cc))
+    (λ fine. false≢true (ap is_verdict_reason (sym read) ∙ fine))
+    ((reasons_of_verdicts bytes v).1 e)
+
+-- A refusal as ReadFault is a failure to read.
+reading_failed : (Fails : Type 0) (input : ℕ) (bytes : List ℕ) (fault : Fault) → Refuses Fails input bytes fault → fault.reason ≡ ReadFault
+    → Fails
+reading_failed Fails input bytes fault (inl (inl memory)) e =
+    absurd (let f : Memory ≡ ReadFault = ap (λ f. f.reason) (sym memory) ∙ e in cc)
+reading_failed Fails input bytes fault (inl (inr failed)) e = failed.0
+reading_failed Fails input bytes fault (inr (v, is, same)) e =
+    absurd (verdict_is_other bytes v is (ap (λ f. f.reason) (sym same) ∙ e))
+
+-- a fault at another offset is ReadFault if it was one
+moved_reading : (input place : ℕ) (reason : Reason) → (fault_at input place reason).reason ≡ ReadFault → reason ≡ ReadFault
+moved_reading input place reason e =
+    ⊎_elim (λ memory. absurd (let f : Memory ≡ ReadFault = ap (λ f. f.reason) (sym memory) ∙ e in cc))
+    (λ is. ap (λ f. f.reason) (sym is) ∙ e)
+    (fault_is input place reason)
+
+module _ (Fails : Type 0) (all : List ℕ) (run : SortedRun) (input offset : ℕ) (fault : Fault) where
   -- A run that is refused as unsorted has its first version out of order there.
-  unsorted_there : Refuses input (run_bytes run all) fault → fault.reason ≡ Unsorted → offset ≡ offset_in_file run fault.place
+  unsorted_there : Refuses Fails input (run_bytes run all) fault → fault.reason ≡ Unsorted → offset ≡ offset_in_file run fault.place
       → IsFirstUnsortedIn all run offset
-  unsorted_there (inl failure) unsorted is = absurd (failure_is_other fault failure unsorted)
+  unsorted_there (inl failure) unsorted is = absurd (failure_is_other Fails fault failure unsorted)
   unsorted_there (inr (v, e, same)) unsorted is =
       let there : v ≡ verdict_at fault.place Unsorted =
       (λ i. verdict_at ((sym (ap (λ f. f.place) same)) i) ((sym (ap (λ f. f.reason) same) ∙ unsorted) i)) in
       (fault.place, e ∙ ap Some there, is)
 
   -- A run that is refused for another reason is no file, or a read failed.
-  refused_there : Refuses input (run_bytes run all) fault → (fault.reason ≡ Unsorted → ⊥)
-      → IsRefusalOf (run_bytes run all) (fault_at input offset fault.reason)
-  refused_there (inl failure) other = inl (moved_failure input offset fault failure)
+  refused_there : Refuses Fails input (run_bytes run all) fault → (fault.reason ≡ Unsorted → ⊥)
+      → IsRefusalOf Fails (run_bytes run all) (fault_at input offset fault.reason)
+  refused_there (inl failure) other = inl (moved_failure Fails input offset fault failure)
   refused_there (inr (v, e, same)) other =
       inr (verdict_refuses (run_bytes run all) v e (λ unsorted. other (ap (λ f. f.reason) same ∙ unsorted)))
 
@@ -195,11 +232,62 @@ module _ (Fails : Type 0) (run : SortedRun) (size : ℕ) where
         → offset ≡ offset_in_file run fault.place → IfWhole known size (λ all. IsFirstUnsortedIn all run offset)
     read_unsorted None stops unsorted is = tt
     read_unsorted (Some all) stops unsorted is =
-        λ whole. unsorted_there all run input offset fault (run_refuses Fails all run size input fault whole stops) unsorted is
+        λ whole. unsorted_there Fails all run input offset fault (run_refuses Fails all run size input fault whole stops) unsorted is
 
     -- Another refusal of a run is a refusal of its bytes, at the offset in the file.
     pub read_refused : (known : Option (List ℕ)) → Run known (λ c. StopsOpening input c fault) → (fault.reason ≡ Unsorted → ⊥)
-        → IfWhole known size (λ all. IsRefusalOf (run_bytes run all) (fault_at input offset fault.reason))
+        → IfWhole known size (λ all. IsRefusalOf Fails (run_bytes run all) (fault_at input offset fault.reason))
     read_refused None stops other = tt
     read_refused (Some all) stops other =
-        λ whole. refused_there all run input offset fault (run_refuses Fails all run size input fault whole stops) other
+        λ whole. refused_there Fails all run input offset fault (run_refuses Fails all run size input fault whole stops) other
+
+    -- If the refusal is ReadFault, reads of the file may fail.
+    pub read_failed : (known : Option (List ℕ)) → Run known (λ c. StopsOpening input c fault)
+        → (fault_at input offset fault.reason).reason ≡ ReadFault → IfWhole known size (λ all. Fails)
+    read_failed None stops e = tt
+    read_failed (Some all) stops e = λ whole.
+        reading_failed Fails input (run_bytes run all) fault (run_refuses Fails all run size input fault whole stops)
+        (moved_reading input offset fault.reason e)
+
+-- ---- the result of reading a run whatever its order
+-- accepted bytes have no verdict
+accepted_whole : (bytes : List ℕ) (v : Verdict) → verdict bytes ≡ Some v → IsAccepted bytes → ⊥
+accepted_whole bytes v e (held, holds) =
+    let none : verdict bytes ≡ None = (files_are_read bytes holds.versions holds.short holds.file).0 in
+    (let f : None ≡ Some v = sym none ∙ e in cc)
+
+module _ (Fails : Type 0) (all : List ℕ) (run : SortedRun) (size input : ℕ) (fault : Fault) (whole : length all ≡ size) where
+  broken_units : (bytes more : List ℕ) (v : Verdict) → Fails → (units_from None 0 (broken_after bytes)).refusal ≡ Some v
+      → fault ≡ fault_of input v → IsRefusalOf Fails (bytes ++ more) fault
+  broken_units bytes more v fails e is =
+      ⊎_elim
+      (λ long. inr (λ accepted. (
+      let short = accepted.1.short in
+      absurd (omega (arith, short, long.0, length-append bytes more)))))
+      (λ short. ⊎_elim
+      (λ faulty. inr (accepted_whole (bytes ++ more) faulty.0 (malformed_stays bytes more faulty.0 faulty.1 faulty.2)))
+      (λ closed. (
+      let same : Some (verdict_at (length bytes) ReadFault) ≡ Some v = sym closed.2 ∙ e in
+      let at : verdict_at (length bytes) ReadFault ≡ v = cc in
+      inl (inr (fails, ap (λ f. f.reason) is ∙ ap (λ v. v.reason) (sym at)))))
+      short)
+      (broken_inputs bytes)
+
+  given_units : (bytes : List ℕ) (broken : Bool) → GivesRun Fails (Some all) run size (record { bytes = bytes; broken = broken })
+      → (with_input input (units_from None 0 (record { bytes = bytes; broken = broken }))).refusal ≡ Some fault
+      → IsRefusalOf Fails (run_bytes run all) fault
+  given_units bytes true gives e =
+      let front = run_front Fails all run size bytes gives in
+      let found = mapped_fault input (units_from None 0 (broken_after bytes)).refusal fault e in
+      subst (λ xs. IsRefusalOf Fails xs fault) (sym front.1)
+      (broken_units bytes front.0 found.0 (broken_fails Fails all run size (broken_after bytes) whole gives refl) found.1 found.2)
+  given_units bytes false gives e =
+      let found = mapped_fault input (verdict bytes) fault (sym (inputs_are_files input bytes).1 ∙ e) in
+      let same : bytes ≡ run_bytes run all = run_given Fails all run size (record { bytes = bytes; broken = false }) whole gives refl in
+      inr (accepted_whole (run_bytes run all) found.0 (ap verdict (sym same) ∙ found.1))
+
+-- A run whose units are refused is no file, or a read failed.
+pub units_refuse : (Fails : Type 0) (all : List ℕ) (run : SortedRun) (size input : ℕ) (fault : Fault) (c : InputRest) → length all ≡ size
+    → GivesRun Fails (Some all) run size c → (with_input input (units_from None 0 c)).refusal ≡ Some fault
+    → IsRefusalOf Fails (run_bytes run all) fault
+units_refuse Fails all run size input fault c whole = given_units Fails all run size input fault whole c.bytes c.broken

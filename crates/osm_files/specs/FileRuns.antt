@@ -52,17 +52,17 @@ abbrev pub IsFirstUnsortedIn : List ℕ → SortedRun → ℕ → Type 0
 IsFirstUnsortedIn file run offset =
     (place : ℕ) × IsFirstUnsorted (run_bytes run file) place × (offset ≡ offset_in_file run place)
 
--- the fault is out of memory, or that the file can't be read
-abbrev pub IsReadFailure : Fault → Type 0
-IsReadFailure fault = (fault ≡ memory_fault) ⊎ (fault.reason ≡ ReadFault)
+-- the fault is out of memory; or reads of the file may fail, and the fault is that one did
+abbrev pub IsReadFailure : Type 0 → Fault → Type 0
+IsReadFailure Fails fault = (fault ≡ memory_fault) ⊎ (Fails × (fault.reason ≡ ReadFault))
 
 -- the fault is out of memory, or that the file can't be read; or the bytes aren't accepted as a file
-abbrev pub IsRefusalOf : List ℕ → Fault → Type 0
-IsRefusalOf bytes fault = IsReadFailure fault ⊎ (IsAccepted bytes → ⊥)
+abbrev pub IsRefusalOf : Type 0 → List ℕ → Fault → Type 0
+IsRefusalOf Fails bytes fault = IsReadFailure Fails fault ⊎ (IsAccepted bytes → ⊥)
 
 -- The result of reading a run of this file: none if the run is a sorted file, or the offset of its first version that
 -- is out of order, or a refusal of the run.
-abbrev pub IsOrderOf : List ℕ → SortedRun → Result (Option ℕ) Fault → Type 0
-IsOrderOf file run (Ok None) = IsSortedRun file run
-IsOrderOf file run (Ok (Some offset)) = IsFirstUnsortedIn file run offset
-IsOrderOf file run (Err fault) = IsRefusalOf (run_bytes run file) fault
+abbrev pub IsOrderOf : Type 0 → List ℕ → SortedRun → Result (Option ℕ) Fault → Type 0
+IsOrderOf Fails file run (Ok None) = IsSortedRun file run
+IsOrderOf Fails file run (Ok (Some offset)) = IsFirstUnsortedIn file run offset
+IsOrderOf Fails file run (Err fault) = IsRefusalOf Fails (run_bytes run file) fault

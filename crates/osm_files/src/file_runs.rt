@@ -1,9 +1,9 @@
 //! The sorted runs of a file whose versions may have any order. The file is split before each version that is out of
 //! order.
 ghost use Rattle.std.specs.Prelude.{◌≡◌, ◌↔◌, ◌+◌, ◌<◌, ◌≤◌, ◌^◌, IsTrue, true, Ok, Some, None, length, slice_get};
-ghost use Rattle.std.specs.Prelude.{IfOk, IfErr, OnOk, IfSome};
+ghost use Rattle.std.specs.Prelude.{IfOk, IfErr, OnOk, OnErr, IfSome};
 ghost use Rattle.std.specs.List.{All};
-ghost use Rattle.osm_files.specs.declared.reason.Reason.TheVariants.{Unsorted};
+ghost use Rattle.osm_files.specs.declared.reason.Reason.TheVariants.{Unsorted, ReadFault};
 ghost use Rattle.osm_files.specs.Fault.{IsOfFile};
 ghost use Rattle.osm_files.specs.FileRuns.{EndsWhole, StopsSource, GivesSortedFile, IfWhole, LastIsSorted};
 ghost use Rattle.osm_files.specs.FileRuns.{IsSortedRun, IsAccepted, IsFirstUnsorted, IsFirstUnsortedIn};
@@ -54,7 +54,8 @@ pub fn find_runs<F: ReadAt>(
         IfSome first (IsFirstUnsorted all) → All (IsSortedRun all) runs.items))) }
     ensures few { IfOk result (λ found. IfSome found (λ runs. length runs.items ≤ most)) }
     ensures input { IfErr result (IsOfFile input) }
-    ensures refused { IfErr result (λ fault. IfWhole (F.bytes file.now) size (λ all. IsRefusalOf all fault)) }
+    ensures refused { IfErr result (λ fault.
+        IfWhole (F.bytes file.now) size (λ all. IsRefusalOf (F.fails file.now) all fault)) }
 {
     let mut split = SplitFile::new(alloc);
     let mut known = first;
@@ -90,7 +91,8 @@ fn split_before<F: ReadAt>(
     ensures rest { result ≡ Ok true → IfWhole (F.bytes file.now) size (λ all.
         IsAccepted (spec.run_bytes split.old.rest all) → IsAccepted (spec.run_bytes split.new.rest all)) }
     ensures input { IfErr result (IsOfFile input) }
-    ensures failure { IfErr result IsReadFailure }
+    ensures failure { IfErr result (λ fault.
+        IfWhole (F.bytes file.now) size (λ all. IsReadFailure (F.fails file.now) fault)) }
 {
     let Ok(bytes) = bytes_at(file, split.rest().start, offset) else {
         return Err(Fault::at(input, offset, Reason::ReadFault));
@@ -104,7 +106,8 @@ fn split_before<F: ReadAt>(
 
 /// The bytes of a file that determine whether a run that begins at `start` may be split at `offset`.
 fn bytes_at<F: ReadAt>(file: &F, start: u64, offset: u64) -> Result<BytesAtSplit, Broken>
-    ensures { IfOk result (λ bytes. IfSome (F.bytes file.now) (λ all. spec.HasBytes all start offset bytes)) }
+    ensures bytes { IfOk result (λ bytes. IfSome (F.bytes file.now) (λ all. spec.HasBytes all start offset bytes)) }
+    ensures broken { OnErr result (F.fails file.now) }
 {
     let first = byte_at(file, start)?;
     let before = byte_at(file, offset.saturating_sub(1))?;
@@ -114,7 +117,8 @@ fn bytes_at<F: ReadAt>(file: &F, start: u64, offset: u64) -> Result<BytesAtSplit
 
 /// The byte at `offset` of a file; `None` if there is none.
 pub(crate) fn byte_at<F: ReadAt>(file: &F, offset: u64) -> Result<Option<u8>, Broken>
-    ensures { IfOk result (λ byte. IfSome (F.bytes file.now) (λ all. slice_get all offset ≡ byte)) }
+    ensures byte { IfOk result (λ byte. IfSome (F.bytes file.now) (λ all. slice_get all offset ≡ byte)) }
+    ensures broken { OnErr result (F.fails file.now) }
 {
     let mut byte = [0u8; 1];
     match file.read_at(&mut byte, offset) {
@@ -138,7 +142,8 @@ fn is_sorted<F: ReadAt>(
 ) -> Result<bool, Fault>
     ensures sorted { result ≡ Ok true → IfWhole (F.bytes file.now) size (λ all. IsSortedRun all run) }
     ensures input { IfErr result (IsOfFile input) }
-    ensures failure { IfErr result IsReadFailure }
+    ensures failure { IfErr result (λ fault.
+        IfWhole (F.bytes file.now) size (λ all. IsReadFailure (F.fails file.now) fault)) }
 {
     match read_run(alloc, file, input, size, run) {
         Ok(first) => Ok(first.is_none()),
@@ -163,7 +168,8 @@ fn first_unsorted<F: ReadAt>(
     known: Option<u64>,
 ) -> Result<Option<u64>, Fault>
     ensures known { IfSome known (λ offset. result ≡ Ok (Some offset)) }
-    ensures order { known ≡ None → IfWhole (F.bytes file.now) size (λ all. IsOrderOf all run result) }
+    ensures order { known ≡ None →
+        IfWhole (F.bytes file.now) size (λ all. IsOrderOf (F.fails file.now) all run result) }
     ensures input { IfErr result (IsOfFile input) }
 {
     match known {
@@ -185,7 +191,9 @@ fn read_run<F: ReadAt>(
     size: u64,
     run: SortedRun,
 ) -> Result<Option<u64>, Fault>
-    ensures order { IfWhole (F.bytes file.now) size (λ all. IsOrderOf all run result) }
+    ensures order { IfWhole (F.bytes file.now) size (λ all. IsOrderOf (F.fails file.now) all run result) }
+    ensures failure { IfErr result (λ fault. fault.reason ≡ ReadFault →
+        IfWhole (F.bytes file.now) size (λ all. F.fails file.now)) }
     ensures input { IfErr result (IsOfFile input) }
 {
     match read_sorted(alloc, input, FramedExtent::of_run(file, size, run)) {

@@ -20,7 +20,8 @@ pub trait ReadAt {
     ///
     /// `Broken` if the length isn't known.
     fn size(&self) -> Result<u64, Broken>
-        ensures { IfOk result (λ size. IfSome (bytes self.now) (λ all. size ≡ length all)) };
+        ensures bytes { IfOk result (λ size. IfSome (bytes self.now) (λ all. size ≡ length all)) }
+        ensures broken { OnErr result (fails self.now) };
 
     /// Reads some of the bytes at `offset` into the front of `buffer`, and returns their number.
     ///

@@ -270,7 +270,7 @@ yields_set : (given : source.VersionsToCome) (held : VersionSet) → given ≡ s
 yields_set given held is = (ap (λ (s : source.VersionsToCome). s.refusal) is, ap members is ∙ sym (listed_members held))
 
 -- the source of a file that can be read in its way
-as_given : (number : ℕ) (input : ReadAs × InputRest) (held : VersionSet) → IsFileAs input held → Yields (source_of number input) held
+pub as_given : (number : ℕ) (input : ReadAs × InputRest) (held : VersionSet) → IsFileAs input held → Yields (source_of number input) held
 as_given number (Sorted, c) held h = yields_set (sorted_source number c) held (source_sorted number c held h.unbroken h.file)
 as_given number (Any, c) held h = yields_set (held_source number c) held (file_read number c held h)
 as_given number (Within span Refused, c) part (file, inside) =

@@ -18,12 +18,10 @@ pub union_of_one : (s : VersionSet) → union_of (s ∷ []) ≡ s
 union_of_one s = equal _ _ (λ v. in_union_of (s ∷ []) v ∙ sym (or_false (contains s v)))
 
 -- The union of two lists of sets depends only on the union of each.
-pub union_of_both : (sets more others : List VersionSet) (t : VersionSet) → union_of sets ≡ union_of others → union_of more ≡ t
-    → union_of (sets ++ more) ≡ union_of (others ++ t ∷ [])
-union_of_both sets more others t same is = equal _ _ (λ v.
+pub union_of_front : (sets more others : List VersionSet) → union_of more ≡ union_of others
+    → union_of (sets ++ more) ≡ union_of (union_of sets ∷ others)
+union_of_front sets more others same = equal _ _ (λ v.
     in_union_of (sets ++ more) v
     ∙ list_any-append (λ s. contains s v) sets more
-    ∙ (λ i. (sym (in_union_of sets v) ∙ ap (λ s. contains s v) same ∙ in_union_of others v) i
-    || (sym (in_union_of more v) ∙ ap (λ s. contains s v) is ∙ or_false (contains t v)) i)
-    ∙ sym (list_any-append (λ s. contains s v) others (t ∷ []))
-    ∙ sym (in_union_of (others ++ t ∷ []) v))
+    ∙ (λ i. sym (in_union_of sets v) i || (sym (in_union_of more v) ∙ ap (λ s. contains s v) same ∙ in_union_of others v) i)
+    ∙ sym (in_union_of (union_of sets ∷ others) v))

@@ -21,6 +21,11 @@ pub mod SortedRuns
 pub mod Slices
 pub mod CutOffset
 pub mod Shards
-pub mod Largest
 pub mod FilesRun
 pub mod Request
+pub mod FilesRefusal
+pub mod Bounds
+pub mod Probes
+pub mod ShardSpan
+pub mod ShardPart
+pub mod ShardRun

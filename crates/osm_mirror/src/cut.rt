@@ -71,7 +71,7 @@ fn is_first_below<F: ReadAt>(
 }
 
 /// Whether the bytes of a file from `offset` on begin as an o5 file does. No line of an OPL file begins so.
-fn begins_as_o5<F: ReadAt>(file: &F, input: usize, offset: u64) -> Result<bool, Fault>
+pub(crate) fn begins_as_o5<F: ReadAt>(file: &F, input: usize, offset: u64) -> Result<bool, Fault>
     ensures begins { IfOk result (BeginsAs (F.bytes file.now) offset) }
     ensures refused { IfErr result IsDeviceFault }
     ensures number { IfErr result (IsOfFile input) }

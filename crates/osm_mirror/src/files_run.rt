@@ -1,17 +1,19 @@
 //! The one run over open files and streams.
-ghost use Rattle.std.specs.Prelude.{◌≡◌, ◌↔◌, true, false, IsTrue, IfOk, OnOk, IfSome};
+ghost use Rattle.std.specs.Prelude.{◌≡◌, ◌↔◌, true, false, IsTrue, IfOk, IfErr, OnOk, IfSome};
 ghost use Rattle.osm_files.specs.Change.{change_of};
 ghost use Rattle.osm_files.specs.Clear.{IsCleared};
+ghost use Rattle.osm_files.specs.Fault.{memory_fault};
 ghost use Rattle.osm_merge.specs.Merged.{Grows};
+ghost use Rattle.osm_mirror.specs.FilesRefusal.{RefusesFilesRun, IsOutputFault, MayBeSplit, IsFirstFound};
 ghost use Rattle.osm_mirror.specs.FilesRun.{read_as_of, IsFilesRun, WroteTo};
 ghost use Rattle.osm_mirror.specs.declared.files_run.Order.TheVariants as order;
 
-use crate::file_way::{FileWay, FirstUnsorted, first_ways, split_files};
+use crate::file_way::{FileWay, FirstUnsorted, last_ways, ways_after, ways_at_first};
 use crate::files_turn::run_turn;
 use crate::input::ReadAs;
 use osm_files::{Broken, ClearOutput, Fault, Format, Input, ReadAt, Reason};
 use osm_merge::{Counts, Progress, Selection};
-use std::alloc::{AllocError, Global};
+use std::alloc::Global;
 
 /// The most turns of a run.
 const TURNS: usize = 3;
@@ -46,7 +48,7 @@ impl Order {
     }
 
     /// Whether the versions may have any order.
-    fn is_any(self) -> bool
+    pub(crate) fn is_any(self) -> bool
         ensures { IsTrue result ↔ (self ≡ order.Any) }
     {
         self == Order::Any
@@ -69,7 +71,8 @@ pub struct FilesRun {
 /// If it returns `Ok`, each file is a file of its grammar, and sorted if the order of the run is `Sorted`. The bytes
 /// written are the one spelling of the selection of the union of the files' sets.
 ///
-/// If the order is `Any`, a file is first read as a sorted one. If it is refused as `Unsorted`, it is split into sorted
+/// If the order is `Any`, a file is first read as a sorted one, unless a look at a few of its versions shows that it
+/// isn't. If it is refused as `Unsorted`, it is split into sorted
 /// runs, or read to its end, and the run begins anew: the output is cleared, and `progress.begin` is called. If that
 /// happens a second time, all files are split, so there are at most three turns. If the output can't be cleared, or if
 /// there is a stream, there is one turn: all files are split before anything is written, and each stream is read to its
@@ -90,11 +93,13 @@ pub fn run_files<'f, F: ReadAt, R: Input + Drop, W: ClearOutput, P: Progress>(
 ) -> Result<Counts, Fault>
     ensures written { IfOk result (λ counts. WroteTo W.Output (W.can_clear out.old) out.old out.new (λ change.
         IsFilesRun F.bytes R.can_give run files.entry.items change counts)) }
+    ensures refused { IfErr result (RefusesFilesRun F.fails F.bytes R.can_give W.Output (W.can_clear out.old) run
+        files.entry.items out.old out.new) }
     ensures kept { W.can_clear out.old ≡ false → Grows (change_of W.Output out.old out.new) }
     ensures good { OnOk result (W.failed out.new ≡ false) }
 {
-    let mut ways = first_ways(alloc, run.order, files.as_slice())?;
-    let can_begin_anew = run.order.is_any() && out.can_be_cleared();
+    let can_begin_anew = may_begin_anew(run.order, out);
+    let mut ways = ways_at_first(alloc, run.order, files.as_slice(), can_begin_anew)?;
     'turns: for turn in 1..TURNS {
         let Some(again) = copies(alloc, can_begin_anew, files.as_slice())? else {
             break;
@@ -103,19 +108,18 @@ pub fn run_files<'f, F: ReadAt, R: Input + Drop, W: ClearOutput, P: Progress>(
         let Some(first) = first_unsorted(&outcome, ways.as_slice()) else {
             return outcome;
         };
-        split_files(
-            alloc,
-            files.as_slice(),
-            ways.as_mut_slice(),
-            Some(first),
-            turn > 1,
-        )?;
+        ways = ways_after(alloc, files.as_slice(), ways, first, turn)?;
         clear(out, files.len())?;
     }
-    if run.order.is_any() {
-        split_files(alloc, files.as_slice(), ways.as_mut_slice(), None, true)?;
-    }
-    run_turn(alloc, run, files, ways.as_slice(), out, progress)
+    let settled = last_ways(alloc, run.order, files.as_slice(), ways)?;
+    run_turn(alloc, run, files, settled.as_slice(), out, progress)
+}
+
+/// Whether a run over files of this order may begin anew.
+fn may_begin_anew<W: ClearOutput>(order: Order, out: &W) -> bool
+    ensures { result ≡ true → (W.can_clear out.now ≡ true) × (order ≡ Order.Any) }
+{
+    order.is_any() && out.can_be_cleared()
 }
 
 /// The files once more, unless one is a stream; none if they aren't `wanted`.
@@ -123,9 +127,10 @@ fn copies<'f, F: ReadAt, R: Drop>(
     alloc: Global,
     wanted: bool,
     files: &[RunFile<'f, F, R>],
-) -> Result<Option<Vec<RunFile<'f, F, R>>>, AllocError>
+) -> Result<Option<Vec<RunFile<'f, F, R>>>, Fault>
     ensures same { IfOk result (λ copied. IfSome copied (λ copies. copies.items ≡ files.now)) }
     ensures wanted { IfOk result (λ copied. IfSome copied (λ _. wanted ≡ true)) }
+    ensures memory { IfErr result (λ fault. fault ≡ memory_fault) }
 {
     if !wanted {
         return Ok(None);
@@ -141,22 +146,34 @@ fn copies<'f, F: ReadAt, R: Drop>(
 }
 
 /// The first version out of order, if a turn was refused because a file that may be split isn't sorted.
-fn first_unsorted(outcome: &Result<Counts, Fault>, ways: &[FileWay]) -> Option<FirstUnsorted> {
+fn first_unsorted(outcome: &Result<Counts, Fault>, ways: &[FileWay]) -> Option<FirstUnsorted>
+    ensures { IsFirstFound outcome.now ways.now result }
+{
     match outcome {
-        Err(fault) if fault.reason == Reason::Unsorted => match ways.get(fault.input) {
-            Some(way) if way.may_be_split => Some(FirstUnsorted {
+        Err(fault) if fault.reason == Reason::Unsorted && may_be_split(ways, fault.input) => {
+            Some(FirstUnsorted {
                 file: fault.input,
                 place: fault.place,
-            }),
-            _ => None,
-        },
+            })
+        }
         _ => None,
+    }
+}
+
+/// Whether the file `number` may be split.
+fn may_be_split(ways: &[FileWay], number: usize) -> bool
+    ensures { IsTrue result ↔ MayBeSplit ways.now number }
+{
+    match ways.get(number) {
+        Some(way) => way.may_be_split,
+        None => false,
     }
 }
 
 /// Clears the output, whose number is `number`.
 fn clear<W: ClearOutput>(out: &mut W, number: usize) -> Result<(), Fault>
     ensures cleared { OnOk result (IsCleared (W.holds out.old) (W.holds out.new)) }
+    ensures fault { IfErr result (IsOutputFault number) }
 {
     match out.clear() {
         Ok(()) => Ok(()),

@@ -3,6 +3,7 @@
 ghost use Rattle.osm_mirror.specs.FleetLaws.{LatestMirrorsAgree, FullMirrorsAgree};
 ghost use Rattle.osm_mirror.specs.Merges.{MergesOfTheSameFiles};
 ghost use Rattle.osm_mirror.specs.PlanLaws.{OnePlan, FaultySpellsNothing};
+ghost use Rattle.osm_mirror.specs.ShardRun.{ShardRunsWriteTheRun};
 ghost use Rattle.osm_mirror.specs.Shards.{PartsHoldTheFile, ShardsWriteTheRun};
 ghost use Rattle.osm_mirror.specs.Slices.{SlicesHoldTheFile, SlicesWriteTheRun};
 ghost use Rattle.osm_mirror.specs.SortedRuns.{SortedRunsHoldTheFile, SortedRunsWriteTheFile};
@@ -66,4 +67,9 @@ pub fn one_plan()
 /// A text that has a fault spells no plan.
 pub fn faulty_spells_nothing()
     ensures { FaultySpellsNothing }
+{}
+
+/// The runs for all shards of an output write, in sequence, the same bytes as one run over the files.
+pub fn shard_runs_write_the_run()
+    ensures { ShardRunsWriteTheRun }
 {}

@@ -1,6 +1,7 @@
 //! The runs over whole files of OpenStreetMap histories, and mirrors that take and pass such files.
 #![tactic(auto)]
 
+mod bounds;
 mod check;
 mod cut;
 mod event;
@@ -13,7 +14,6 @@ mod held;
 mod input;
 mod keep;
 pub mod known_inputs;
-mod largest;
 pub mod laws;
 mod merge;
 mod mirror;
@@ -21,8 +21,12 @@ mod moment;
 mod plan;
 mod plan_fault;
 mod plan_line;
+mod probe;
 mod request;
 mod run;
+mod shard;
+mod shard_part;
+mod shard_run;
 mod slice;
 mod source;
 
@@ -35,7 +39,6 @@ pub use fleet::Fleet;
 pub use held::{run_apply, run_period_filter, run_sort, run_time_filter};
 pub use input::{InputFile, ReadAs};
 pub use keep::{Keep, Taken};
-pub use largest::largest_file;
 pub use merge::run_merge;
 pub use mirror::Mirror;
 pub use moment::read_moment;
@@ -46,6 +49,8 @@ pub use plan_fault::{PlanFault, PlanReason};
 pub use plan_line::PlanWrite;
 pub use request::{Command, FileRequest, RequestFault};
 pub use run::run_selected;
+pub use shard::Shard;
+pub use shard_run::{ShardRun, run_shard};
 pub use slice::{Slice, SliceFile, run_slice};
 
 #[cfg(test)]

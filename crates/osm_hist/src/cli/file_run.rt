@@ -7,11 +7,13 @@ use super::part::{FileId, PartFile};
 use super::progress::Meter;
 use super::refusal::Refusal;
 use super::request::FileRun;
-use super::shard::{Shard, ShardRun, check_shardable, refuse_irregular, run_shard};
+use super::shard::{check_shardable, refuse_irregular};
 use super::summary::Summary;
 use super::target::{Destination, Target};
 use osm_files::{Broken, Clear, ClearOutput, Fault, Input, Output, ReadAt, Reason, WholeFile};
-use osm_mirror::{Counts, NoProgress, RunFile, run_files as run_open_files};
+use osm_mirror::{
+    Counts, NoProgress, RunFile, Shard, ShardRun, run_files as run_open_files, run_shard,
+};
 use std::cell::Cell;
 use std::io::{IsTerminal, Read, Write};
 use std::rt::Files;

@@ -2,11 +2,11 @@
 use super::command::{LIST, command};
 use super::list::names_of;
 use super::refusal::Refusal;
-use super::shard::Shard;
+use super::shard::parse_shard;
 use super::target::STANDARD;
 use clap::{ArgMatches, Error};
 use osm_files::Format;
-use osm_mirror::{Command, FileRequest, FilesRun};
+use osm_mirror::{Command, FileRequest, FilesRun, Shard};
 use std::alloc::Global;
 use std::convert::AsStr;
 
@@ -275,7 +275,7 @@ fn shard<'a>(args: &ArgMatches<'a>) -> Result<Option<Shard>, Refusal<'a>> {
     let Some(shard) = args.get_str("shard") else {
         return Ok(None);
     };
-    match Shard::parse(shard) {
+    match parse_shard(shard) {
         Some(shard) => Ok(Some(shard)),
         None => Err(Refusal::NotShard { shard }),
     }

@@ -14,35 +14,42 @@ runs-init g c =
       known_has known (λ all. length all < 2 ^ 64 → IsSplitIntoRuns all (runs_of c.new-split.result))
           c.new-split.ensures.runs,
       few,
-      subst (λ (runs : FileRuns). IfWhole known c.args.size (λ all. Found all c.args.first c.args.first runs)) (sym c.new-split.ensures.one)
+      subst (λ (runs : FileRuns). IfWhole known c.args.size (λ all. Found all c.args.first c.args.first runs)) (sym
+          c.new-split.ensures.one)
           (found_nothing known c.args.size c.args.first (omega (arith, c.ranges.size.fits))),
     )
 
 pub runs-preserved : goal.runs-preserved
 runs-preserved g c =
     let file = g.F.ReadAt.bytes c.args.file.now in
-    let rest = knows file c.args.size c.rest.result c.runs.split.rest c.take.result c.runs.known _ _ c.rest.ensures c.take.ensures.value
+    let rest = knows (g.F.ReadAt.fails c.args.file.now) file c.args.size c.rest.result c.runs.split.rest c.take.result c.runs.known _ _
+    c.rest.ensures c.take.ensures.value
     (ap Ok c.in-Some.is) c.in_ok-unsorted.ensures.known c.in_ok-unsorted.ensures.order in
     let split = c.in_ok-split_before.ensures in
     let can = ap Ok c.if-not-branch.false in (
       search rules,
       search rules,
-      rw c.take.ensures.after (found_more file c.args.size c.args.first c.runs.known c.runs.split c.split_before.new.split
+      rw c.take.ensures.after (found_more (g.F.ReadAt.fails c.args.file.now) file c.args.size c.args.first c.runs.known c.runs.split
+          c.split_before.new.split
           c.in-Some.offset (omega (arith, split.fits)) c.runs.invariant.2 rest (split.fronts can) (split.rest can)),
     )
 
 pub returns-in_err-unsorted-clause-refused : goal.returns-in_err-unsorted-clause-refused
 returns-in_err-unsorted-clause-refused g c =
     let file = g.F.ReadAt.bytes c.args.file.now in
-    let rest = knows file c.args.size c.rest.result c.runs.split.rest c.take.result c.runs.known _ _ c.rest.ensures c.take.ensures.value
+    let rest = knows (g.F.ReadAt.fails c.args.file.now) file c.args.size c.rest.result c.runs.split.rest c.take.result c.runs.known _ _
+    c.rest.ensures c.take.ensures.value
     refl c.in_err-unsorted.ensures.known c.in_err-unsorted.ensures.order in
     let p = err_from_is_err_and c.from_residual.result c.from_residual.ensures.1 in
-    rw (p.1, p.2) (refused_rest file c.args.size c.args.first c.runs.known c.runs.split c.in_err-unsorted.field-0.0 c.runs.invariant.2 rest)
+    rw (p.1, p.2) (refused_rest (g.F.ReadAt.fails c.args.file.now) file c.args.size c.args.first c.runs.known c.runs.split
+    c.in_err-unsorted.field-0.0 c.runs.invariant.2 rest)
 
 pub returns-in_default-clause-sorted : goal.returns-in_default-clause-sorted
 returns-in_default-clause-sorted g c =
     let file = g.F.ReadAt.bytes c.args.file.now in
-    let rest = knows file c.args.size c.rest.result c.runs.split.rest c.take.result c.runs.known _ _ c.rest.ensures c.take.ensures.value
+    let rest = knows (g.F.ReadAt.fails c.args.file.now) file c.args.size c.rest.result c.runs.split.rest c.take.result c.runs.known _ _
+    c.rest.ensures c.take.ensures.value
     (ap Ok c.in_default.is) c.in_ok-unsorted.ensures.known c.in_ok-unsorted.ensures.order in
-    all_sorted file c.args.size c.runs.split c.runs.known c.args.first c.runs.invariant.2 rest c.in_ok-into_runs.field-0.items
+    all_sorted (g.F.ReadAt.fails c.args.file.now) file c.args.size c.runs.split c.runs.known c.args.first c.runs.invariant.2 rest
+    c.in_ok-into_runs.field-0.items
     c.in_ok-into_runs.ensures

@@ -1,6 +1,6 @@
-use Rattle.std.proofs.Common.{◌∙◌, sym}
+use Rattle.std.proofs.Common.{◌∙◌, ap, sym}
 use Rattle.std.proofs.lemmas.Bool.{false≢true}
-use Rattle.osm_files.proofs.RunOrderLaws.{read_whole, read_unsorted, read_refused}
+use Rattle.osm_files.proofs.RunOrderLaws.{read_whole, read_unsorted, read_refused, read_failed}
 use Rattle.osm_files.proofs.file_runs.read_run.Goals as goal
 
 pub returns-in-Ok-clause-order : goal.returns-in-Ok-clause-order
@@ -26,3 +26,10 @@ returns-else-is_unsorted-clause-order g c =
     (read_refused (g.F.ReadAt.fails file) c.args.run c.args.size c.args.input c.offset_in_file-place.result c.in-Err.fault
     (g.F.ReadAt.bytes file) (stops.0, (c.of_run.ensures stops.0).0 stops.1, stops.2)
     (λ unsorted. false≢true (sym c.if-is_unsorted.false ∙ c.is_unsorted.ensures.1 unsorted)))
+
+pub returns-else-is_unsorted-clause-failure : goal.returns-else-is_unsorted-clause-failure
+returns-else-is_unsorted-clause-failure g c = λ is.
+    let file = c.args.file.now in
+    let stops = c.in-Err.ensures.refused in
+    read_failed (g.F.ReadAt.fails file) c.args.run c.args.size c.args.input c.offset_in_file-place.result c.in-Err.fault
+    (g.F.ReadAt.bytes file) (stops.0, (c.of_run.ensures stops.0).0 stops.1, stops.2) (ap (λ f. f.reason) (sym c.at.ensures) ∙ is)

@@ -9,7 +9,7 @@ pub returns-in-Some-clause-fronts : goal.returns-in-Some-clause-fronts
 returns-in-Some-clause-fronts g c = λ sorted.
     let known = g.F.ReadAt.bytes c.args.file.now in
     let has = subst (λ (run : SortedRun). IfSome known (λ all. HasBytes all run.start c.args.offset c.in-Ok.bytes)) c.rest.ensures
-    c.in-Ok.ensures in
+    c.in-Ok.ensures.bytes in
     fronts_sorted known c.args.size c.args.split.now c.split.new.self c.args.offset c.in-Ok.bytes c.in-Some.front has
     (rw c.in-Some.is at c.in_ok-front.ensures.value) (λ sets. c.is_sorted.ensures.sorted sorted) (omega (arith, c.ranges.size.fits))
 
@@ -17,7 +17,7 @@ pub returns-in-Some-clause-rest : goal.returns-in-Some-clause-rest
 returns-in-Some-clause-rest g c = λ sorted.
     let known = g.F.ReadAt.bytes c.args.file.now in
     let has = subst (λ (run : SortedRun). IfSome known (λ all. HasBytes all run.start c.args.offset c.in-Ok.bytes)) c.rest.ensures
-    c.in-Ok.ensures in
+    c.in-Ok.ensures.bytes in
     rest_stays known c.args.size c.args.split.now c.split.new.self c.args.offset c.in-Ok.bytes c.in-Some.front has
     (rw c.in-Some.is at c.in_ok-front.ensures.value) (λ sets. c.is_sorted.ensures.sorted sorted)
 
@@ -30,7 +30,7 @@ pub returns-in-Some-2-clause-fronts : goal.returns-in-Some-2-clause-fronts
 returns-in-Some-2-clause-fronts g c = λ split.
     let known = g.F.ReadAt.bytes c.args.file.now in
     let has = subst (λ (run : SortedRun). IfSome known (λ all. HasBytes all run.start c.args.offset c.in-Ok.bytes)) c.rest.ensures
-    c.in-Ok.ensures in
+    c.in-Ok.ensures.bytes in
     fronts_sorted known c.args.size c.args.split.now c.split.new.self c.args.offset c.in-Ok.bytes c.in-Some.front has
     (rw c.in-Some.is at c.in_ok-front.ensures.value) (λ sets. absurd (false≢true (sym c.if-front.false ∙ sets)))
     (omega (arith, c.ranges.size.fits))
@@ -39,6 +39,6 @@ pub returns-in-Some-2-clause-rest : goal.returns-in-Some-2-clause-rest
 returns-in-Some-2-clause-rest g c = λ split.
     let known = g.F.ReadAt.bytes c.args.file.now in
     let has = subst (λ (run : SortedRun). IfSome known (λ all. HasBytes all run.start c.args.offset c.in-Ok.bytes)) c.rest.ensures
-    c.in-Ok.ensures in
+    c.in-Ok.ensures.bytes in
     rest_stays known c.args.size c.args.split.now c.split.new.self c.args.offset c.in-Ok.bytes c.in-Some.front has
     (rw c.in-Some.is at c.in_ok-front.ensures.value) (λ sets. absurd (false≢true (sym c.if-front.false ∙ sets)))

@@ -4,7 +4,7 @@ use Rattle.osm_mirror.proofs.CutLaws.{halving_first, halving_low, halving_high, 
 use Rattle.osm_mirror.proofs.cut.cut_offset.Goals as goal
 
 pub halves-init : goal.halves-init
-halves-init g c = halving_first c.args.bound (g.F.ReadAt.bytes c.args.file.now) c.in-Ok.size c.in-Ok.ensures
+halves-init g c = halving_first c.args.bound (g.F.ReadAt.bytes c.args.file.now) c.in-Ok.size c.in-Ok.ensures.bytes
 
 pub halves-preserved-then-branch : goal.halves-preserved-then-branch
 halves-preserved-then-branch g c =

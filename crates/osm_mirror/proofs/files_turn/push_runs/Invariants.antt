@@ -1,12 +1,11 @@
-use Rattle.std.proofs.Common.{◌≡◌, List, ◌++◌, take, IfSome}
+use Rattle.std.proofs.Common.{◌≡◌, List, ◌++◌, take}
 use Rattle.osm_model.specs.Pairwise.{Pairwise}
 use Rattle.osm_files.specs.FileInput.{FileInputGives}
 use Rattle.osm_mirror.specs.declared.input.InputFile.{InputFile}
-use Rattle.osm_mirror.proofs.FilesRunLaws.{Opens}
+use Rattle.osm_mirror.specs.FilesRun.{OpensRun}
 use Rattle.osm_mirror.proofs.files_turn.push_runs.Given as goal
 
 abbrev pub invariant-runs : goal.invariant-runs
 invariant-runs g l = (added : List (InputFile _)) × (l.inputs.items ≡ l.fn.inputs.items ++ added)
-    × IfSome (g.F.ReadAt.bytes l.file) (λ all. Pairwise
-    (Opens (FileInputGives g.F.ReadAt.fails g.F.ReadAt.bytes g.R.Input.can_give) (g.F.ReadAt.fails l.file) all l.way.size l.way.order)
-    added (take l.number l.way.runs.items))
+    × Pairwise (OpensRun (FileInputGives g.F.ReadAt.fails g.F.ReadAt.bytes g.R.Input.can_give) (g.F.ReadAt.fails l.file)
+    (g.F.ReadAt.bytes l.file) l.way.size l.way.order) added (take l.number l.way.runs.items)

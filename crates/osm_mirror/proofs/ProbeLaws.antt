@@ -1,0 +1,213 @@
+-- The probes of files: what they find, and at which offsets.
+use Rattle.std.proofs.Common.{◌≡◌, ℕ, zero, suc, ◌+◌, ◌-◌, ◌*◌, ◌/◌, ◌≤◌, ◌<◌, ◌==◌, ◌^◌, min, Bool, true, false, not, cond, List, [], ◌∷◌}
+use Rattle.std.proofs.Common.{◌++◌, length, refl, sym, ap, ◌∙◌, subst, arith, Option, Some, None, Ok, IfSome}
+use Rattle.std.proofs.Common.{append_assoc, append-nil}
+use Rattle.std.specs.Prelude.{option_map, sum_by, unwrap_or}
+use Rattle.std.proofs.lemmas.Bool.Decides.{nat_tests}
+use Rattle.std.proofs.lemmas.Grind.{flat_map-append}
+use Rattle.std.proofs.lemmas.List.Sums.{sum_by_push, sum_by-append, sum_by-cons}
+use Rattle.std.proofs.lemmas.Nat.{mul-le, div-add-mod', row_fits}
+use Rattle.osm_model.specs.Data.{VersionData}
+use Rattle.osm_model.specs.Pairwise.{Pairwise}
+use Rattle.osm_model.specs.VersionSet.{VersionSet}
+use Rattle.osm_files.specs.Held.{HoldsSorted, IsFileOf}
+use Rattle.osm_files.specs.Lines.{lines_from, IsFirstOf, IsFirstFrom}
+use Rattle.osm_files.specs.O5.{reset_byte}
+use Rattle.osm_files.specs.Opl.{OplFile}
+use Rattle.osm_files.specs.Units.{InOpl, start_of}
+use Rattle.osm_files.proofs.FirstLaws.{lines_read}
+use Rattle.osm_merge.specs.declared.object.Object.{Object}
+use Rattle.osm_merge.specs.Slice.{object_of}
+use Rattle.osm_mirror.specs.declared.bounds.Found.{Found}
+use Rattle.osm_mirror.specs.Bounds.{is_opl, opl_size, object_of_first, first_object, found_once, found_at, found_by, probe_count}
+use Rattle.osm_mirror.specs.Bounds.{found_in, total_weight}
+use Rattle.osm_mirror.specs.Bounds.{found_in_all}
+use Rattle.osm_mirror.specs.CutOffset.{start_if}
+use Rattle.osm_mirror.specs.Probes.{IsTotal, FindsIn, FindsInAll}
+use Rattle.osm_mirror.specs.ShardPart.{size_if_opl, IsOplSize}
+use Rattle.osm_mirror.proofs.CutLaws.{split_lines, split_versions}
+use Rattle.osm_mirror.proofs.FilesRunLaws.{cut, known_given}
+
+-- ---- the first byte of a file
+starts_if : (t : Bool) → start_if (not (not t)) ≡ start_if t
+starts_if true = refl
+starts_if false = refl
+
+-- an o5 file is one that begins as such
+pub starts : (bytes : List ℕ) → start_of bytes ≡ start_if (not (is_opl bytes))
+starts [] = refl
+starts (b ∷ bytes) = sym (starts_if (b == reset_byte))
+
+one_start : (s t : Bool) → start_if s ≡ start_if t → s ≡ t
+one_start true true e = refl
+one_start true false e = cc
+one_start false true e = cc
+one_start false false e = refl
+
+not_not : (t : Bool) → not (not t) ≡ t
+not_not true = refl
+not_not false = refl
+
+-- the first byte shows whether a file is OPL
+pub opl_is : (bytes : List ℕ) (is_o5 : Bool) → start_of bytes ≡ start_if is_o5 → is_opl bytes ≡ not is_o5
+opl_is bytes is_o5 e =
+    sym (not_not (is_opl bytes)) ∙ ap not (one_start (not (is_opl bytes)) is_o5 (sym (starts bytes) ∙ e))
+
+pub opl_starts : (bytes : List ℕ) → is_opl bytes ≡ true → start_of bytes ≡ InOpl
+opl_starts bytes e = starts bytes ∙ ap (λ t. start_if (not t)) e
+
+pub opl_file : (bytes : List ℕ) (versions : List VersionData) → is_opl bytes ≡ true → IsFileOf (start_of bytes) bytes versions →
+    OplFile bytes versions
+opl_file bytes versions e file = subst (λ s. IsFileOf s bytes versions) (opl_starts bytes e) file
+
+-- ---- one probe
+first_of : (versions : List VersionData) (first : Option VersionData) → IsFirstOf first versions →
+    option_map object_of first ≡ object_of_first versions
+first_of [] first h = ap (option_map object_of) h
+first_of (v ∷ versions) first h = ap (option_map object_of) h
+
+found_first : (all : List ℕ) (versions : List VersionData) → OplFile all versions → (offset : ℕ) (first : Option VersionData) →
+    ((later : List VersionData) → OplFile (lines_from offset all) later → IsFirstOf first later) →
+    option_map object_of first ≡ first_object offset all
+found_first all versions file offset first h =
+    let parts = split_versions all (lines_from offset all) (split_lines offset all) versions file in
+    first_of parts.later first (h parts.later parts.second)
+    ∙ ap object_of_first (sym (lines_read (lines_from offset all) parts.later parts.second))
+
+-- ---- all probes of a file
+-- the first probes found these objects, and they were appended
+abbrev pub FindsFirst : Option (List ℕ) → ℕ → ℕ → ℕ → List Found → List Found → Type 0
+FindsFirst known size step number before after = IfSome known (λ all. size ≡ length all → length all < 2 ^ 62
+    → (versions : List VersionData) → OplFile all versions → after ≡ before ++ found_by step all number)
+
+pub finds_none : (known : Option (List ℕ)) (size step : ℕ) (found : List Found) → FindsFirst known size step 0 found found
+finds_none None size step found = tt
+finds_none (Some all) size step found = λ is short versions file. sym (append-nil found)
+
+pub finds_more : (known : Option (List ℕ)) (size step number next offset : ℕ) (before found after : List Found) →
+    FindsFirst known size step number before found → next ≡ number + 1 → offset ≡ number * step → (first : Option VersionData) →
+    IsFirstFrom known offset (Ok first) → after ≡ found ++ found_once (min step (size - offset)) (option_map object_of first) →
+    FindsFirst known size step next before after
+finds_more None size step number next offset before found after h one at first probe is = tt
+finds_more (Some all) size step number next offset before found after h one at first probe is = λ same short versions file.
+    let object = found_first all versions file offset first (probe short) in
+    let here : found_once (min step (size - offset)) (option_map object_of first) ≡ found_at step all (number * step) =
+    (λ i. found_once (min step (same i - offset)) (object i)) ∙ ap (found_at step all) at in
+    let e : next ≡ suc number = omega (arith, one) in
+    is ∙ (λ i. h same short versions file i ++ here i) ∙ append_assoc before (found_by step all number) (found_at step all (number * step))
+    ∙ ap (λ n. before ++ found_by step all n) (sym e)
+
+-- the probe with a number is within the file
+pub within : (number step size : ℕ) → 0 < step → number < probe_count step size → number * step < size
+within number step zero some low = absurd (omega (arith, low))
+within number step (suc size) some low =
+    let some_bytes : (suc size == 0) ≡ false = grind (arith, nat_tests) in
+    let one_less : suc size - 1 ≡ size = omega arith in
+    let count : probe_count step (suc size) ≡ size / step + 1 =
+    ap (λ t. cond t 0 ((suc size - 1) / step + 1)) some_bytes ∙ ap (λ n. n / step + 1) one_less in
+    let most : number ≤ size / step = omega (arith, low, count) in
+    let part = mul-le number step (size / step) step most (omega arith) in
+    let whole = div-add-mod' size step in
+    omega (arith, part, whole)
+
+-- ---- the weight of what is found
+once_weight : (weight : ℕ) (object : Option Object) → total_weight (found_once weight object) ≤ weight
+once_weight weight None = omega arith
+once_weight weight (Some object) = omega arith
+
+by_weight : (step : ℕ) (bytes : List ℕ) (number : ℕ) →
+    (total_weight (found_by step bytes number) ≤ length bytes) × (total_weight (found_by step bytes number) ≤ number * step)
+by_weight step bytes zero = (omega arith, omega arith)
+by_weight step bytes (suc number) =
+    let so_far = by_weight step bytes number in
+    let both = sum_by-append (λ f. f.weight) (found_by step bytes number) (found_at step bytes (number * step)) in
+    let one = once_weight (min step (length bytes - number * step)) (first_object (number * step) bytes) in
+    let next = row_fits number step (suc number) step (omega arith) (omega arith) in
+    let early = so_far.0 in
+    let low = so_far.1 in (
+      omega (arith, early, low, both, one),
+      omega (arith, low, both, one, next),
+    )
+
+in_weight : (step : ℕ) (bytes : List ℕ) → total_weight (found_in step bytes) ≤ opl_size bytes
+in_weight step bytes = elim (is_opl bytes) as (λ t.
+    total_weight (cond t (found_by step bytes (probe_count step (length bytes))) []) ≤ cond t (length bytes) 0) [
+      | true ↦ (by_weight step bytes (probe_count step (length bytes))).0
+      | false ↦ omega arith
+    ]
+
+-- what is found weighs no more than the files have bytes
+pub all_weight : (step : ℕ) (all : List (List ℕ)) → total_weight (found_in_all step all) ≤ sum_by opl_size all
+all_weight step [] = omega arith
+all_weight step (bytes ∷ all) =
+    let both = sum_by-append (λ f. f.weight) (found_in step bytes) (found_in_all step all) in
+    let sizes = sum_by-cons opl_size bytes all in
+    let one = in_weight step bytes in
+    let more = all_weight step all in
+    omega (arith, both, sizes, one, more)
+
+-- ---- one file more
+module _ {F B : Type 0} (R : F → B → Type 0) where
+  -- what belongs to files and to one more
+  pub record Divided (files : List F) (file : F) (all : List B) : Type 0 where
+    pub before : List B
+    pub bytes : B
+    pub are : all ≡ before ++ bytes ∷ []
+    pub first : Pairwise R files before
+    pub last : R file bytes
+
+  last_bytes : (files : List F) (file : F) (all before after : List B) → all ≡ before ++ after → Pairwise R files before →
+      Pairwise R (file ∷ []) after → Divided files file all
+  last_bytes files file all before [] are first h = absurd h
+  last_bytes files file all before (b ∷ c ∷ after) are first h = absurd h.1
+  last_bytes files file all before (b ∷ []) are first h = record { before = before; bytes = b; are = are; first = first; last = h.0 }
+
+  pub divided : (files : List F) (file : F) (all : List B) → Pairwise R (files ++ file ∷ []) all → Divided files file all
+  divided files file all have =
+      let c = cut R files (file ∷ []) all have in
+      last_bytes files file all c.before c.after c.joined c.first c.second
+
+module _ {F : Type 0} (known : F → Option (List ℕ)) where
+  abbrev has_bytes : F → List ℕ → Type 0
+  has_bytes file bytes = known file ≡ Some bytes
+
+  size_is : (all : List ℕ) (size : Option ℕ) → size ≡ size_if_opl all → unwrap_or size 0 ≡ opl_size all
+  size_is all size is = ap (λ (s : Option ℕ). unwrap_or s 0) is ∙ (elim (is_opl all) as (λ t.
+      unwrap_or (cond t (Some (length all)) None) 0 ≡ cond t (length all) 0) [
+        | true ↦ refl
+        | false ↦ refl
+      ])
+
+  pub total_none : IsTotal known [] 0
+  total_none [] have = refl
+  total_none (b ∷ all) have = absurd have
+
+  pub total_more : (files : List F) (file : F) (total next : ℕ) (size : Option ℕ) → IsTotal known files total →
+      IsOplSize (known file) size → next ≡ total + unwrap_or size 0 → IsTotal known (files ++ file ∷ []) next
+  total_more files file total next size h is sum all have =
+      let d = divided has_bytes files file all have in
+      let one = size_is d.bytes size (known_given (known file) (λ b. size ≡ size_if_opl b) d.bytes d.last is) in
+      let so_far = h d.before d.first in
+      let push = sum_by_push opl_size d.before d.bytes in
+      let whole : sum_by opl_size all ≡ sum_by opl_size (d.before ++ d.bytes ∷ []) = ap (sum_by opl_size) d.are in
+      omega (arith, one, so_far, push, whole, sum)
+
+  pub all_none : (step : ℕ) → FindsInAll known step [] []
+  all_none step [] held have holds = refl
+  all_none step (b ∷ all) held have holds = absurd have
+
+  last_held : (step : ℕ) (bytes : List ℕ) (held : List VersionSet) → Pairwise HoldsSorted (bytes ∷ []) held →
+      (set : VersionSet) × HoldsSorted bytes set
+  last_held step bytes [] h = absurd h
+  last_held step bytes (s ∷ held) h = (s, h.0)
+
+  pub all_more : (step : ℕ) (files : List F) (file : F) (found after : List Found) → FindsInAll known step files found →
+      FindsIn (known file) step found after → FindsInAll known step (files ++ file ∷ []) after
+  all_more step files file found after h one all held have holds =
+      let d = divided has_bytes files file all have in
+      let c = cut HoldsSorted d.before (d.bytes ∷ []) held (subst (λ (xs : List (List ℕ)). Pairwise HoldsSorted xs held) d.are holds) in
+      let last = last_held step d.bytes c.after c.second in
+      let here = known_given (known file) (λ b. (s : VersionSet) → HoldsSorted b s → after ≡ found ++ found_in step b) d.bytes d.last one
+      last.0 last.1 in
+      here ∙ (λ i. h d.before c.before d.first c.first i ++ sym (append-nil (found_in step d.bytes)) i)
+      ∙ sym (flat_map-append (found_in step) d.before (d.bytes ∷ [])) ∙ ap (found_in_all step) (sym d.are)

@@ -1,0 +1,23 @@
+use Rattle.std.proofs.Common.{List, ℕ, Option, take, Bor, arith, sym, subst}
+use Rattle.std.proofs.lemmas.List.{take_all}
+use Rattle.osm_mirror.specs.Probes.{FindsInAll}
+use Rattle.osm_mirror.proofs.FilesRunLaws.{take_more}
+use Rattle.osm_mirror.proofs.ProbeLaws.{all_more}
+use Rattle.osm_mirror.proofs.bounds.probe_files.Goals as goal
+
+pub files-preserved : goal.files-preserved
+files-preserved g c =
+    let known : Bor g.row.F.Denot → Option (List ℕ) = λ file. g.F.ReadAt.bytes file.now in
+    let files = c.args.files.now in
+    let file = c.index-files-number.result in
+    let more = take_more files c.files.number file (omega (arith, c.files-test.true)) c.index-files-number.is in
+    subst (λ fs. FindsInAll known c.args.step fs c.probe_file.new.found.items) (sym more)
+    (all_more known c.args.step (take c.files.number files) file c.files.found.items c.probe_file.new.found.items c.files.invariant
+    c.in_ok-probe_file.ensures)
+
+pub returns : goal.returns
+returns g c =
+    let known : Bor g.row.F.Denot → Option (List ℕ) = λ file. g.F.ReadAt.bytes file.now in
+    let files = c.args.files.now in
+    let whole = take_all c.files.number files (omega (arith, c.files-test.false)) in
+    subst (λ fs. FindsInAll known c.args.step fs c.files.found.items) whole c.files.invariant

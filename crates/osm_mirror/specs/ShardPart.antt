@@ -1,0 +1,70 @@
+-- The part of a file that a shard reads, and what it holds: an own rule of this project.
+use Rattle.std.specs.Prelude.{◌≡◌, ℕ, ◌-◌, ◌<◌, ◌≤◌, ◌^◌, true, false, List, length, Option, Some, None, IfSome}
+use Rattle.std.specs.Prelude.{if◌then◌else◌}
+use Rattle.osm_model.specs.VersionSet.{VersionSet}
+use Rattle.osm_files.specs.declared.sorted_run.SortedRun.{SortedRun}
+use Rattle.osm_files.specs.Held.{HoldsSorted}
+use Rattle.osm_files.specs.Input.{InputRest}
+use Rattle.osm_files.specs.SortedRun.{whole_run}
+use Rattle.osm_merge.specs.declared.object.Object.{Object}
+use Rattle.osm_merge.specs.declared.object.Span.{Span}
+use Rattle.osm_merge.specs.declared.within.Outside.{Outside}
+use Rattle.osm_merge.specs.declared.within.Outside.TheVariants.{Dropped, Refused}
+use Rattle.osm_merge.specs.Slice.{slice_of, is_ascending}
+use Rattle.osm_mirror.specs.declared.shard_part.FilePart.{FilePart}
+use Rattle.osm_mirror.specs.declared.slice.SliceFile.{SliceFile}
+use Rattle.osm_mirror.specs.Bounds.{is_opl}
+use Rattle.osm_mirror.specs.CutOffset.{IsCutAt, BeginsLines}
+use Rattle.osm_mirror.specs.SliceRun.{SliceGives, HasSlice}
+
+-- the size of a file if it is OPL
+abbrev pub size_if_opl : List ℕ → Option ℕ
+size_if_opl all = if is_opl all then Some (length all) else None
+
+-- the same, if the file's bytes are known
+abbrev pub IsOplSize : Option (List ℕ) → Option ℕ → Type 0
+IsOplSize known size = IfSome known (λ all. size ≡ size_if_opl all)
+
+-- the part of a file begins at this offset: at its first byte, or where it is cut at the lower bound
+abbrev pub BeginsAt : List ℕ → Option Object → ℕ → Type 0
+BeginsAt all None start = start ≡ 0
+BeginsAt all (Some bound) start = IsCutAt all bound start × BeginsLines all start
+
+-- the part of a file ends at this offset: at its last byte, or where it is cut at the upper bound
+abbrev pub EndsAt : List ℕ → Option Object → ℕ → Type 0
+EndsAt all None end = end ≡ length all
+EndsAt all (Some bound) end = IsCutAt all bound end × BeginsLines all end
+
+-- the same, if the file's bytes are known and aren't too many
+abbrev pub BeginsAtOf : Option (List ℕ) → Option Object → ℕ → Type 0
+BeginsAtOf known bound start = IfSome known (λ all. length all < 2 ^ 62 → BeginsAt all bound start)
+
+abbrev pub EndsAtOf : Option (List ℕ) → Option Object → ℕ → Type 0
+EndsAtOf known bound end = IfSome known (λ all. length all < 2 ^ 62 → EndsAt all bound end)
+
+-- a file has a part within a span, from one offset up to another
+pub record IsPartWithin (span : Span) (all : List ℕ) (start end : ℕ) : Type 0 where
+  pub begins : BeginsAt all span.from start
+  pub ends : EndsAt all span.to end
+  pub ascends : start ≤ end
+
+-- the bytes from one offset up to another
+abbrev pub lines_between : ℕ → ℕ → SortedRun
+lines_between start end = record { start = start; size = end - start; lacks_header = false; lacks_end = false }
+
+-- the part of a file that is read for a span: the lines within it of an OPL file, and all of an o5 file
+pub record IsFilePart (span : Span) (all : List ℕ) (part : FilePart) : Type 0 where
+  pub size : length all ≡ part.size
+  pub opl : is_opl all ≡ true → (part.outside ≡ Refused)
+      × ((start : ℕ) × (end : ℕ) × (part.run ≡ lines_between start end) × IsPartWithin span all start end)
+  pub o5 : is_opl all ≡ false → (part.outside ≡ Dropped) × (part.run ≡ whole_run)
+
+-- the same, if the file's bytes are known and aren't too many
+abbrev pub IsPartOf : Span → Option (List ℕ) → FilePart → Type 0
+IsPartOf span known part = IfSome known (λ all. length all < 2 ^ 62 → IsFilePart span all part)
+
+-- if a run accepts this input, it gives the slice of what a sorted file with these bytes holds
+abbrev pub GivesTheSlice : {R : Type 0} → (R → InputRest → Type 0) → Span → List ℕ → SliceFile R → Type 0
+GivesTheSlice can span bytes input = is_ascending span ≡ true → (given : Outside × InputRest) (part set : VersionSet)
+    → SliceGives can input given → HasSlice span given part → HoldsSorted bytes set
+    → part ≡ slice_of span.from span.to set
