@@ -20,7 +20,7 @@ complete -c osm_hist -n "__fish_seen_subcommand_from $writing" -s o -l output -r
 complete -c osm_hist -n "__fish_seen_subcommand_from $writing" -s f -l format -x -a 'opl o5m o5c' -d 'Its format'
 complete -c osm_hist -n "__fish_seen_subcommand_from $writing" -l shard -x -d 'Write part K of N'
 complete -c osm_hist -n "__fish_seen_subcommand_from $writing" -l fsync -d 'Have it on the disk before it is renamed'
-complete -c osm_hist -n "__fish_seen_subcommand_from $writing" -l progress -d 'Tell while it runs how much was read and written'
+complete -c osm_hist -n "__fish_seen_subcommand_from $writing" -l progress -d 'Tell while it runs how many megabytes were read'
 complete -c osm_hist -n "__fish_seen_subcommand_from apply" -l with-history -d 'Write all versions'
 complete -c osm_hist -n "__fish_seen_subcommand_from apply" -l with-deletions -d 'Write the newest version of each object, deletions included'
 complete -c osm_hist -n "__fish_seen_subcommand_from apply time-filter sort check" -l sorted -d 'Refuse a file that is not sorted'

@@ -5,6 +5,7 @@ mod content;
 mod files;
 mod history;
 mod line;
+mod reads;
 mod selected;
 mod whole;
 
@@ -12,6 +13,7 @@ pub use content::first_version;
 pub use files::to_o5m;
 pub use history::with_version;
 pub use line::canonical;
+pub use reads::one_file_of_reads;
 pub use selected::visible_map;
 pub use whole::one_file;
 

@@ -1,6 +1,8 @@
 //! Tests of each caller with input that has no fault.
-use crate::{canonical, first_version, one_file, to_o5m, visible_map, with_version};
-use osm_files::{SliceIn, load_any};
+use crate::{
+    canonical, first_version, one_file, one_file_of_reads, to_o5m, visible_map, with_version,
+};
+use osm_files::{Broken, Reason, Recorded, SliceIn, load_any};
 use osm_model::{History, Kind};
 use std::test::Fail;
 
@@ -29,6 +31,25 @@ fn files_of_both_kinds_are_one(rt: HostRuntime) -> Result<(), Fail> {
     let file = to_o5m(rt.alloc(), LINES)?;
     let lines = one_file(rt.alloc(), &[LINES, file.as_slice(), LINES])?;
     assert_eq!(rt; lines.as_slice(), LINES);
+    Ok(())
+}
+
+#[test]
+fn reads_are_replayed(rt: HostRuntime) -> Result<(), Fail> {
+    let (front, rest) = LINES.split_at(7);
+    let whole = [Ok(front), Ok(rest), Ok(b"".as_slice())];
+    let failed = [Ok(front), Err(Broken), Ok(rest)];
+    let mut files = Vec::new(rt.alloc());
+    files.push(Recorded::new(&whole))?;
+    assert_eq!(rt; one_file_of_reads(rt.alloc(), files)?.as_slice(), LINES);
+    let mut files = Vec::new(rt.alloc());
+    files.push(Recorded::new(&whole))?;
+    files.push(Recorded::new(&failed))?;
+    let Err(fault) = one_file_of_reads(rt.alloc(), files) else {
+        assert!(rt; false);
+        return Ok(());
+    };
+    assert_eq!(rt; (fault.input, fault.place, fault.reason), (1, 7, Reason::ReadFault));
     Ok(())
 }
 

@@ -122,7 +122,7 @@ number_reason bytes f h = within_reason (groups_at 10 bytes) f (groups_reason 10
 number_same : (bytes : List ℕ) (x : ℕ × List ℕ) → Same (number_at bytes ≡ Ok x) (NumberAtFront bytes x)
 number_same bytes x = (number_found bytes x, number_only bytes x)
 
-number_refused : (bytes : List ℕ) (reason : O5Reason) → Same (number_at bytes ≡ Err reason) (NumberRefused bytes reason)
+pub number_refused : (bytes : List ℕ) (reason : O5Reason) → Same (number_at bytes ≡ Err reason) (NumberRefused bytes reason)
 number_refused bytes reason = only_reason (number_at bytes) BadNumber reason (NumberAtFront bytes) (number_reason bytes) (number_same bytes)
 
 signed_reason : (bytes : List ℕ) (f : O5Reason) → signed_at bytes ≡ Err f → f ≡ BadNumber

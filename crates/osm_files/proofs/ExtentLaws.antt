@@ -19,7 +19,8 @@ nothing_at : (known : Option (List ℕ)) (next : ℕ) → AreAt known next []
 nothing_at None next = tt
 nothing_at (Some all) next = (drop next all, refl)
 
-joined_at : (known : Option (List ℕ)) (next : ℕ) (front more : List ℕ) → AreAt known next front
+-- Bytes of a file, and the bytes after them.
+pub joined_at : (known : Option (List ℕ)) (next : ℕ) (front more : List ℕ) → AreAt known next front
     → AreAt known (next + length front) more → AreAt known next (front ++ more)
 joined_at None next front more at then_at = tt
 joined_at (Some all) next front more at then_at = (

@@ -261,7 +261,7 @@ nothing_in_nothing : unit_at InOpl [] ≡ None
 unfolding unit_at
 nothing_in_nothing = refl
 
-nothing_closes : (close : Verdict) → units (Some close) InOpl 0 [] ≡ end_refused close
+pub nothing_closes : (close : Verdict) → units (Some close) InOpl 0 [] ≡ end_refused close
 nothing_closes close = units_stop (Some close) InOpl 0 [] nothing_in_nothing
 
 module _ (fault : Verdict) where

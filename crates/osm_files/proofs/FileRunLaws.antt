@@ -2,10 +2,11 @@
 use Rattle.std.proofs.Common.{◌≡◌, inl, inr, ⊎_elim, ℕ, ◌+◌, ◌-◌, ◌≤◌, ◌<◌, ◌^◌, ◌&&◌, nat_lt, Bool, true, false, cond, List, [], ◌∷◌}
 use Rattle.std.proofs.Common.{◌++◌}
 use Rattle.std.proofs.Common.{Option, Some, None, IfSome, is_some, Result, Ok, Err, length, take, drop, refl, sym, ap, ◌∙◌, subst, arith}
-use Rattle.std.proofs.Common.{length-append, length-drop, length-take}
+use Rattle.std.proofs.Common.{append-nil, min, slice_get, suc, zero, ◌||◌, length-append, length-drop, length-take}
 use Rattle.std.proofs.Math.Seq.{take-append_seam}
-use Rattle.std.proofs.lemmas.Bool.{false≢true, and_parts, ltb-true}
+use Rattle.std.proofs.lemmas.Bool.{cases_lt, false≢true, and_parts, ltb-true, not-true}
 use Rattle.std.proofs.lemmas.List.Elements.{All-nil, All-cons, All-append}
+use Rattle.std.proofs.lemmas.List.{take_all}
 use Rattle.std.proofs.lemmas.Option.{slice_get_within}
 use Rattle.std.specs.List.{All}
 use Rattle.osm_model.specs.Data.{VersionData}
@@ -15,23 +16,28 @@ use Rattle.osm_model.specs.VersionSet.{VersionSet}
 use Rattle.osm_files.specs.declared.fault.Fault.{Fault}
 use Rattle.osm_files.specs.declared.sorted_run.BytesAtSplit.{BytesAtSplit}
 use Rattle.osm_files.specs.declared.sorted_run.SortedRun.{SortedRun}
-use Rattle.osm_files.specs.FileRuns.{GivesSortedFile, IsSortedRun, EndsWhole, StopsSource, IfWhole, IsAccepted}
-use Rattle.osm_files.specs.FileRuns.{IsFirstUnsorted, IsFirstUnsortedIn, IsReadFailure, IsRefusalOf, IsOrderOf}
+use Rattle.osm_files.specs.FileRuns.{GivesSortedFile, IsSortedRun, EndsWhole, StopsSource, IfWhole, IsAccepted, LastIsSorted}
+use Rattle.osm_files.specs.FileRuns.{IsAcceptedRun, IsSortedIfAccepted, IsFirstUnsorted, IsFirstUnsortedIn, IsReadFailure, IsRefusalOf}
+use Rattle.osm_files.specs.FileRuns.{IsOrderOf, is_lines, BreaksAt, IsBreakOf}
+use Rattle.osm_files.specs.KeyOrder.{lines_between, IsOrderOfLines}
 use Rattle.osm_files.specs.Groups.{FileCanGive, new_source, sorted_source}
 use Rattle.osm_files.specs.Held.{HoldsSorted}
 use Rattle.osm_files.specs.Input.{InputRest, GivesOne}
 use Rattle.osm_files.specs.Load.{StopsOpening}
-use Rattle.osm_files.specs.O5.{o5m_header}
+use Rattle.osm_files.specs.O5.{o5m_header, end_byte}
 use Rattle.osm_files.specs.Position.{units_from}
-use Rattle.osm_files.specs.SortedRun.{HasBytes, FileRuns, runs_of, run_bytes, bytes_before, whole_run, is_reset, is_o5_run, is_within}
+use Rattle.osm_files.specs.SortedRun.{HasBytes, FileRuns, runs_of, run_bytes, bytes_before, bytes_after, whole_run, is_reset, is_o5_run}
+use Rattle.osm_files.specs.SortedRun.{is_within}
 use Rattle.osm_files.specs.SortedRun.{can_split, front_run, rest_run, split_run, after_split}
 use Rattle.osm_files.specs.Source.{SourceStep}
 use Rattle.osm_files.specs.Stream.{SourceRest}
+use Rattle.osm_files.specs.Units.{InOpl, BeforeHeader, start_of}
 use Rattle.osm_files.proofs.FaultyLaws.{broken_is_refused}
 use Rattle.osm_files.proofs.HoldLaws.{whole_source_is_held}
 use Rattle.osm_files.proofs.JoinLaws.{split_starts}
-use Rattle.osm_files.proofs.RestLaws.{lines_rest, sets_after}
-use Rattle.osm_files.proofs.SplitLaws.{neither, splits_by, whole_file}
+use Rattle.osm_files.proofs.KeyOrderLaws.{rising_file}
+use Rattle.osm_files.proofs.RestLaws.{lines_front, lines_rest, sets_after}
+use Rattle.osm_files.proofs.SplitLaws.{slice_get-drop, neither, splits_by, whole_file}
 use Rattle.osm_files.proofs.UnsortedLaws.{front_sorted}
 
 abbrev refusal_of : Option (SourceRest VersionData Fault) → Option Fault
@@ -128,11 +134,17 @@ module _ (file : List ℕ) (run : SortedRun) (offset : ℕ) (bytes : BytesAtSpli
       (sym f.whole ∙ split.whole) (f.size ∙ sym long) in
       (f.held, subst (λ xs. HoldsSorted xs f.held) same f.sorted)
 
-  -- the front of a run is a sorted file, if it is one as o5
+  -- the front of a run is a sorted file if it is accepted, if it is one as o5
   front_is_sorted : (t : Bool) → is_o5_run run bytes ≡ t → (t ≡ true → IsSortedRun file (front_run t run offset)) → length file < 2 ^ 64
-      → IsFirstUnsortedIn file run offset → IsSortedRun file (front_run t run offset)
-  front_is_sorted true is sets short unsorted = sets refl
-  front_is_sorted false is sets short unsorted = lines_sorted is short unsorted
+      → BreaksAt file run offset → IsSortedIfAccepted file (front_run t run offset)
+  front_is_sorted true is sets short breaks = λ accepted. sets refl
+  front_is_sorted false is sets short (inl unsorted) = λ accepted. lines_sorted is short unsorted
+  front_is_sorted false is sets short (inr sorted) = sorted
+
+  front_is_accepted : (t : Bool) → is_o5_run run bytes ≡ t → (t ≡ true → IsSortedRun file (front_run t run offset))
+      → IsAcceptedRun file run → IsAcceptedRun file (front_run t run offset)
+  front_is_accepted true is sets all = sorted_accepted _ (sets refl)
+  front_is_accepted false is sets all = lines_front _ _ _ (splits_by run offset bytes file has can false is) all
 
   rest_is_accepted : (t : Bool) → is_o5_run run bytes ≡ t → (t ≡ true → IsSortedRun file (front_run t run offset))
       → IsAccepted (run_bytes run file) → IsAccepted (run_bytes (rest_run t run offset) file)
@@ -188,46 +200,64 @@ module _ (known : Option (List ℕ)) (size : ℕ) (old new : FileRuns) (offset :
   abbrev Sets : Option (List ℕ) → Type 0
   Sets o = front.lacks_end ≡ true → IfWhole o size (λ all. IsSortedRun all front)
 
+  with_front : (P : SortedRun → Type 0) → Cut old offset bytes new front → P front → All P old.fronts → All P new.fronts
+  with_front P cut one fronts =
+      subst (All P) (sym cut.fronts_are) (All-append P old.fronts (front ∷ []) fronts (All-cons P front [] one (All-nil P)))
+
   o5_front : (all : List ℕ) → Sets (Some all) → length all ≡ size → (cut : Cut old offset bytes new front)
       → is_o5_run old.rest bytes ≡ true → IsSortedRun all (front_run (is_o5_run old.rest bytes) old.rest offset)
   o5_front all given whole cut is =
       subst (IsSortedRun all) cut.front_is (given (ap (λ r. r.lacks_end) cut.front_is ∙ is) whole)
 
   fronts_by : (o : Option (List ℕ)) → Has o → Sets o → size < 2 ^ 64 → IfWhole o size (λ all.
-      IsFirstUnsortedIn all old.rest offset → All (IsSortedRun all) old.fronts → All (IsSortedRun all) new.fronts)
+      BreaksAt all old.rest offset → All (IsSortedIfAccepted all) old.fronts → All (IsSortedIfAccepted all) new.fronts)
   fronts_by None there given short = tt
-  fronts_by (Some all) there given short = λ whole unsorted fronts.
+  fronts_by (Some all) there given short = λ whole breaks fronts.
       let cut = cut_by old offset bytes new front value in
-      let one : IsSortedRun all front = subst (IsSortedRun all) (sym cut.front_is)
+      let one : IsSortedIfAccepted all front = subst (IsSortedIfAccepted all) (sym cut.front_is)
       (front_is_sorted all old.rest offset bytes there cut.can (is_o5_run old.rest bytes) refl (o5_front all given whole cut)
-      (omega (arith, whole, short)) unsorted) in
-      subst (All (IsSortedRun all)) (sym cut.fronts_are)
-      (All-append (IsSortedRun all) old.fronts (front ∷ []) fronts
-      (All-cons (IsSortedRun all) front [] one (All-nil (IsSortedRun all))))
+      (omega (arith, whole, short)) breaks) in
+      with_front (IsSortedIfAccepted all) cut one fronts
+
+  accepted_by : (o : Option (List ℕ)) → Has o → Sets o → IfWhole o size (λ all.
+      IsAcceptedRun all old.rest → All (IsAcceptedRun all) old.fronts → All (IsAcceptedRun all) new.fronts)
+  accepted_by None there given = tt
+  accepted_by (Some all) there given = λ whole accepted fronts.
+      let cut = cut_by old offset bytes new front value in
+      let one : IsAcceptedRun all front = subst (IsAcceptedRun all) (sym cut.front_is)
+      (front_is_accepted all old.rest offset bytes there cut.can (is_o5_run old.rest bytes) refl (o5_front all given whole cut) accepted)
+      in
+      with_front (IsAcceptedRun all) cut one fronts
 
   rest_by : (o : Option (List ℕ)) → Has o → Sets o → IfWhole o size (λ all.
-      IsAccepted (run_bytes old.rest all) → IsAccepted (run_bytes new.rest all))
+      IsAcceptedRun all old.rest → IsAcceptedRun all new.rest)
   rest_by None there given = tt
   rest_by (Some all) there given = λ whole accepted.
       let cut = cut_by old offset bytes new front value in
-      subst (λ r. IsAccepted (run_bytes r all)) (sym cut.rest_is)
+      subst (IsAcceptedRun all) (sym cut.rest_is)
       (rest_is_accepted all old.rest offset bytes there cut.can (is_o5_run old.rest bytes) refl (o5_front all given whole cut) accepted)
 
-  -- The fronts after a split at the first version of the rest that is out of order are sorted files.
+  -- The fronts after a split where the order of the rest breaks are sorted files, if they are accepted.
   pub fronts_sorted : size < 2 ^ 64 → IfWhole known size (λ all.
-      IsFirstUnsortedIn all old.rest offset → All (IsSortedRun all) old.fronts → All (IsSortedRun all) new.fronts)
+      BreaksAt all old.rest offset → All (IsSortedIfAccepted all) old.fronts → All (IsSortedIfAccepted all) new.fronts)
   fronts_sorted = fronts_by known has sets
 
+  -- The fronts after a split of a file are files.
+  pub fronts_accepted : IfWhole known size (λ all.
+      IsAcceptedRun all old.rest → All (IsAcceptedRun all) old.fronts → All (IsAcceptedRun all) new.fronts)
+  fronts_accepted = accepted_by known has sets
+
   -- The rest after a split of a file is a file.
-  pub rest_stays : IfWhole known size (λ all. IsAccepted (run_bytes old.rest all) → IsAccepted (run_bytes new.rest all))
+  pub rest_stays : IfWhole known size (λ all. IsAcceptedRun all old.rest → IsAcceptedRun all new.rest)
   rest_stays = rest_by known has sets
 
 -- ---- the runs that were found so far
 -- what is known of the runs that were split off a file, and of the rest
 pub record Found (all : List ℕ) (first known : Option ℕ) (runs : FileRuns) : Type 0 where
-  pub sorted : IfSome first (IsFirstUnsorted all) → All (IsSortedRun all) runs.fronts
+  pub sorted : IfSome first (IsFirstUnsorted all) → All (IsSortedIfAccepted all) runs.fronts
+  pub accepted : IsAccepted all → All (IsAcceptedRun all) runs.fronts
   pub unsorted : IfSome first (IsFirstUnsorted all) → IfSome known (λ offset. offset < 2 ^ 64 → IsFirstUnsortedIn all runs.rest offset)
-  pub rest : IsAccepted all → IsAccepted (run_bytes runs.rest all)
+  pub rest : IsAccepted all → IsAcceptedRun all runs.rest
 
 first_in_whole : (all : List ℕ) (first : Option ℕ) → length all < 2 ^ 64 → IfSome first (IsFirstUnsorted all)
     → IfSome first (λ offset. offset < 2 ^ 64 → IsFirstUnsortedIn all whole_run offset)
@@ -245,7 +275,8 @@ found_nothing None size first fits = tt
 found_nothing (Some all) size first fits = λ whole.
     let short : length all < 2 ^ 64 = omega (arith, fits, whole) in
     record {
-      sorted = λ right. All-nil (IsSortedRun all);
+      sorted = λ right. All-nil (IsSortedIfAccepted all);
+      accepted = λ accepted. All-nil (IsAcceptedRun all);
       unsorted = first_in_whole all first short;
       rest = subst IsAccepted (sym (whole_file all short));
     }
@@ -253,13 +284,13 @@ found_nothing (Some all) size first fits = λ whole.
 -- the order of a run, if its first version out of order is known or was read
 abbrev pub Knows : Type 0 → Option (List ℕ) → ℕ → SortedRun → Option ℕ → Result (Option ℕ) Fault → Type 0
 Knows Fails file size run known result = IfSome known (λ offset. result ≡ Ok (Some offset))
-    × (known ≡ None → IfWhole file size (λ all. IsOrderOf Fails all run result))
+    × (known ≡ None → IfWhole file size (λ all. IsBreakOf Fails all run result))
 
 -- The order of a run is that of an equal one.
 pub knows : (Fails : Type 0) (file : Option (List ℕ)) (size : ℕ) (run rest : SortedRun) (told known : Option ℕ) (result now : Result
     (Option ℕ) Fault)
     → run ≡ rest → told ≡ known → result ≡ now → IfSome told (λ offset. result ≡ Ok (Some offset))
-    → (told ≡ None → IfWhole file size (λ all. IsOrderOf Fails all run result)) → Knows Fails file size rest known now
+    → (told ≡ None → IfWhole file size (λ all. IsBreakOf Fails all run result)) → Knows Fails file size rest known now
 knows Fails file size run rest told known result now is same left first order =
     subst (λ (r : SortedRun). Knows Fails file size r known now) is
     (subst (λ (o : Option ℕ). Knows Fails file size run o now) same
@@ -267,49 +298,62 @@ knows Fails file size run rest told known result now is same left first order =
 
 unsorted_by : (Fails : Type 0) (all : List ℕ) (size : ℕ) (runs : FileRuns) (known : Option ℕ) (offset : ℕ) → length all ≡ size
     → offset < 2 ^ 64 → Knows Fails (Some all) size runs.rest known (let r : _ = Ok (Some offset) in r)
-    → IfSome known (λ first. first < 2 ^ 64 → IsFirstUnsortedIn all runs.rest first) → IsFirstUnsortedIn all runs.rest offset
+    → IfSome known (λ first. first < 2 ^ 64 → IsFirstUnsortedIn all runs.rest first) → BreaksAt all runs.rest offset
 unsorted_by Fails all size runs None offset whole small (told, read) before = read refl whole
 unsorted_by Fails all size runs (Some known) offset whole small (told, read) before =
     let same : offset ≡ known = (let f : Ok (Some offset) ≡ Ok (Some known) = told in cc) in
-    subst (λ (first : ℕ). first < 2 ^ 64 → IsFirstUnsortedIn all runs.rest first) (sym same) before small
+    inl (subst (λ (first : ℕ). first < 2 ^ 64 → IsFirstUnsortedIn all runs.rest first) (sym same) before small)
 
 -- A split at the first version out of order leaves runs that are found.
 pub found_more : (Fails : Type 0) (file : Option (List ℕ)) (size : ℕ) (first known : Option ℕ) (old new : FileRuns) (offset : ℕ)
     → offset < 2 ^ 64
     → IfWhole file size (λ all. Found all first known old) → Knows Fails file size old.rest known (let r : _ = Ok (Some offset) in r)
-    → IfWhole file size (λ all. IsFirstUnsortedIn all old.rest offset → All (IsSortedRun all) old.fronts
-    → All (IsSortedRun all) new.fronts)
-    → IfWhole file size (λ all. IsAccepted (run_bytes old.rest all) → IsAccepted (run_bytes new.rest all))
+    → IfWhole file size (λ all. BreaksAt all old.rest offset → All (IsSortedIfAccepted all) old.fronts
+    → All (IsSortedIfAccepted all) new.fronts)
+    → IfWhole file size (λ all. IsAcceptedRun all old.rest → All (IsAcceptedRun all) old.fronts → All (IsAcceptedRun all) new.fronts)
+    → IfWhole file size (λ all. IsAcceptedRun all old.rest → IsAcceptedRun all new.rest)
     → IfWhole file size (λ all. Found all first None new)
-found_more Fails None size first known old new offset small found knows fronts rest = tt
-found_more Fails (Some all) size first known old new offset small found knows fronts rest = λ whole.
+found_more Fails None size first known old new offset small found knows fronts files rest = tt
+found_more Fails (Some all) size first known old new offset small found knows fronts files rest = λ whole.
     let before = found whole in
     record {
       sorted = λ right. fronts whole (unsorted_by Fails all size old known offset whole small knows (before.unsorted right)) (before.sorted
           right);
       unsorted = λ right. tt;
+      accepted = λ accepted. files whole (before.rest accepted) (before.accepted accepted);
       rest = λ accepted. rest whole (before.rest accepted);
     }
 
 sorted_by : (Fails : Type 0) (all : List ℕ) (size : ℕ) (runs : FileRuns) (known : Option ℕ) → length all ≡ size
-    → Knows Fails (Some all) size runs.rest known (let r : _ = Ok None in r) → IsSortedRun all runs.rest
+    → Knows Fails (Some all) size runs.rest known (let r : _ = Ok None in r) → IsSortedIfAccepted all runs.rest
 sorted_by Fails all size runs None whole (told, read) = read refl whole
 sorted_by Fails all size runs (Some known) whole (told, read) = absurd (let f : Ok None ≡ Ok (Some known) = told in cc)
 
-module _ (Fails : Type 0) (file : Option (List ℕ)) (size : ℕ) (old : FileRuns) (known : Option ℕ) where
-  -- If the rest is found to be a sorted file, all runs are sorted files.
-  pub all_sorted : (first : Option ℕ) → IfWhole file size (λ all. Found all first known old)
-      → Knows Fails file size old.rest known (let r : _ = Ok None in r) → (runs : List SortedRun) → runs ≡ runs_of old
-      → IfWhole file size (λ all. IfSome first (IsFirstUnsorted all) → All (IsSortedRun all) runs)
-  all_sorted first = elim file as (λ o. IfWhole o size (λ all. Found all first known old)
-      → Knows Fails o size old.rest known (let r : _ = Ok None in r) → (runs : List SortedRun) → runs ≡ runs_of old
-      → IfWhole o size (λ all. IfSome first (IsFirstUnsorted all) → All (IsSortedRun all) runs)) [
-        | None ↦ λ found knows runs are. tt
-        | Some all ↦ λ found knows runs are whole right.
-            subst (All (IsSortedRun all)) (sym are)
-            (All-append (IsSortedRun all) old.fronts (old.rest ∷ []) ((found whole).sorted right)
-            (All-cons (IsSortedRun all) old.rest [] (sorted_by Fails all size old known whole knows) (All-nil (IsSortedRun all))))
-      ]
+module _ (Fails : Type 0) (size : ℕ) (old : FileRuns) (known first : Option ℕ) (runs : List SortedRun) (are : runs ≡ runs_of old) where
+  with_rest : (P : SortedRun → Type 0) → All P old.fronts → P old.rest → All P runs
+  with_rest P fronts rest =
+      subst (All P) (sym are) (All-append P old.fronts (old.rest ∷ []) fronts (All-cons P old.rest [] rest (All-nil P)))
+
+  -- If the order of the rest doesn't break, all runs are sorted files, if they are accepted.
+  pub all_sorted : (file : Option (List ℕ)) → IfWhole file size (λ all. Found all first known old)
+      → Knows Fails file size old.rest known (let r : _ = Ok None in r)
+      → IfWhole file size (λ all. IfSome first (IsFirstUnsorted all) → All (IsSortedIfAccepted all) runs)
+  all_sorted None found knows = tt
+  all_sorted (Some all) found knows = λ whole right.
+      with_rest (IsSortedIfAccepted all) ((found whole).sorted right) (sorted_by Fails all size old known whole knows)
+
+  -- The last run is a sorted file, if it is accepted.
+  pub last_sorted : (file : Option (List ℕ)) → Knows Fails file size old.rest known (let r : _ = Ok None in r)
+      → IfWhole file size (λ all. LastIsSorted all runs)
+  last_sorted None knows = tt
+  last_sorted (Some all) knows = λ whole. (old.fronts, old.rest, are, sorted_by Fails all size old known whole knows)
+
+  -- The runs of an accepted file are accepted.
+  pub all_accepted : (file : Option (List ℕ)) → IfWhole file size (λ all. Found all first known old)
+      → IfWhole file size (λ all. IsAccepted all → All (IsAcceptedRun all) runs)
+  all_accepted None found = tt
+  all_accepted (Some all) found = λ whole accepted.
+      with_rest (IsAcceptedRun all) ((found whole).accepted accepted) ((found whole).rest accepted)
 
 refused_by : (Fails : Type 0) (all : List ℕ) (size : ℕ) (first known : Option ℕ) (runs : FileRuns) (fault : Fault) → length all ≡ size
     → Found all first known runs → Knows Fails (Some all) size runs.rest known (let r : _ = Err fault in r) → IsRefusalOf Fails all fault
@@ -332,3 +376,92 @@ pub failed_rest : (Fails : Type 0) (file : Option (List ℕ)) (size : ℕ) (faul
     → IfWhole file size (λ all. IsReadFailure Fails fault) → IfWhole file size (λ all. IsRefusalOf Fails all fault)
 failed_rest Fails None size fault failed = tt
 failed_rest Fails (Some all) size fault failed = λ whole. inl (failed whole)
+
+-- ---- a run that is lines
+-- the lines of the run are in the file as they are
+record AreLines (run : SortedRun) (first : Option ℕ) : Type 0 where
+  header : run.lacks_header ≡ false
+  end : run.lacks_end ≡ false
+  start : is_reset first ≡ false
+
+are_lines : (run : SortedRun) (first : Option ℕ) → is_lines run first ≡ true → AreLines run first
+are_lines run first e =
+    let framed : Bool = run.lacks_end || is_reset first in
+    let one = neither run.lacks_header framed (not-true (run.lacks_header || framed) e) in
+    let two = neither run.lacks_end (is_reset first) one.1 in
+    record { header = one.0; end = two.0; start = two.1 }
+
+-- the bytes of a run without a header and an end of its own
+own_bytes : (run : SortedRun) (all : List ℕ) → run.lacks_header ≡ false → run.lacks_end ≡ false
+    → run_bytes run all ≡ take run.size (drop run.start all)
+own_bytes run all header end =
+    let part : List ℕ = take run.size (drop run.start all) in
+    ap (λ t. cond t o5m_header [] ++ (part ++ bytes_after run)) header ∙ ap (λ t. part ++ cond t (end_byte ∷ []) []) end
+    ∙ append-nil part
+
+-- a run may be longer than its file
+within_file : (run : SortedRun) (all : List ℕ) (end : ℕ) → length all < 2 ^ 64
+    → end ≡ min (min (run.start + run.size) (2 ^ 64 - 1)) (length all)
+    → take run.size (drop run.start all) ≡ lines_between all run.start end
+within_file run all end short is =
+    let part : List ℕ = drop run.start all in
+    let long : length part ≡ length all - run.start = length-drop run.start all in
+    ⊎_elim
+    (λ inside. ap (λ n. take n part) (let e : run.size ≡ end - run.start = omega (arith, is, short, inside) in e))
+    (λ outside. take_all run.size part (omega (arith, long, outside))
+    ∙ sym (take_all (end - run.start) part (omega (arith, long, outside, is, short))))
+    (cases_lt (run.start + run.size) (length all))
+
+by_first : (part : List ℕ) (n : ℕ) → is_reset (slice_get part 0) ≡ false → start_of (take (suc n) part) ≡ InOpl
+by_first [] n other = refl
+by_first (p ∷ part) n other = ap (λ t. cond t BeforeHeader InOpl) other
+
+starts_as_lines : (all : List ℕ) (start n : ℕ) → is_reset (slice_get all start) ≡ false → start_of (take n (drop start all)) ≡ InOpl
+starts_as_lines all start zero other = refl
+starts_as_lines all start (suc n) other =
+    let same : start + 0 ≡ start = omega arith in
+    by_first (drop start all) n (ap is_reset (slice_get-drop start all 0 ∙ ap (slice_get all) same) ∙ other)
+
+module _ (Fails : Type 0) (run : SortedRun) (first : Option ℕ) (lines : is_lines run first ≡ true) (size end : ℕ) (short : size < 2 ^ 64)
+    (is : end ≡ min (min (run.start + run.size) (2 ^ 64 - 1)) size) where
+  abbrev Searched : Option (List ℕ) → Result (Option ℕ) Fault → Type 0
+  Searched known result = IfSome known (λ all. end ≤ length all → IsOrderOfLines Fails all run.start end result)
+
+  module _ (all : List ℕ) (whole : length all ≡ size) (there : slice_get all run.start ≡ first) where
+    opl : (n : ℕ) → start_of (take n (drop run.start all)) ≡ InOpl
+    opl n = starts_as_lines all run.start n (ap is_reset there ∙ (are_lines run first lines).start)
+
+    bytes_are : run_bytes run all ≡ lines_between all run.start end
+    bytes_are =
+        own_bytes run all (are_lines run first lines).header (are_lines run first lines).end
+        ∙ within_file run all end (omega (arith, short, whole)) (is ∙ ap (min (min (run.start + run.size) (2 ^ 64 - 1))) (sym whole))
+
+    by_search : (result : Result (Option ℕ) Fault) → IsOrderOfLines Fails all run.start end result → IsBreakOf Fails all run result
+    by_search (Ok None) (after, rise) = λ accepted.
+        subst (λ bytes. (held : VersionSet) × HoldsSorted bytes held) (sym bytes_are)
+        (rising_file (lines_between all run.start end) after (opl (end - run.start)) rise (subst IsAccepted bytes_are accepted))
+    by_search (Ok (Some offset)) (after, rise) = inr (λ accepted.
+        let n : ℕ = offset - run.start in
+        let less : offset - run.start - 0 ≡ n = omega arith in
+        let same : run_bytes (front_run false run offset) all ≡ lines_between all run.start offset =
+        own_bytes (front_run false run offset) all (are_lines run first lines).header refl ∙ ap (λ m. take m (drop run.start all)) less in
+        subst (λ bytes. (held : VersionSet) × HoldsSorted bytes held) (sym same)
+        (rising_file (lines_between all run.start offset) after (opl n) rise (subst IsAccepted same accepted)))
+    by_search (Err fault) (inl failure) = inl failure
+    by_search (Err fault) (inr never) = inr (λ accepted.
+        let a = subst IsAccepted bytes_are accepted in
+        never a.1.versions (rw (opl (end - run.start)) at a.1.file))
+
+  -- The search among the lines of a run finds where the order of the run breaks.
+  pub lines_break : (known : Option (List ℕ)) (result : Result (Option ℕ) Fault) → IfSome known (λ all. slice_get all run.start ≡ first)
+      → Searched known result → IfWhole known size (λ all. IsBreakOf Fails all run result)
+  lines_break None result there found = tt
+  lines_break (Some all) result there found = λ whole. by_search all whole there result (found (omega (arith, is, whole)))
+
+-- The order of a run that was read whole.
+pub order_breaks : (Fails : Type 0) (known : Option (List ℕ)) (size : ℕ) (run : SortedRun) (result : Result (Option ℕ) Fault)
+    → IfWhole known size (λ all. IsOrderOf Fails all run result) → IfWhole known size (λ all. IsBreakOf Fails all run result)
+order_breaks Fails None size run result order = tt
+order_breaks Fails (Some all) size run (Ok None) order = λ whole accepted. order whole
+order_breaks Fails (Some all) size run (Ok (Some offset)) order = λ whole. inl (order whole)
+order_breaks Fails (Some all) size run (Err fault) order = order

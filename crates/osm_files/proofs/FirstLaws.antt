@@ -1,8 +1,8 @@
 -- The first version of lines from an offset on.
-use Rattle.std.proofs.Common.{◌≡◌, ⊎_elim, inl, inr, ℕ, ◌+◌, ◌-◌, ◌≤◌, ◌<◌, ◌^◌, Bool, true, false, List, [], ◌∷◌, ◌++◌, length, drop}
+use Rattle.std.proofs.Common.{◌≡◌, ◌⊎◌, ⊎_elim, inl, inr, ℕ, ◌+◌, ◌-◌, ◌≤◌, ◌<◌, ◌^◌, Bool, true, false, List, [], ◌∷◌, ◌++◌, length, drop}
 use Rattle.std.proofs.Common.{refl, sym, ap, ◌∙◌, subst, arith, Option, Some, None, Result, Ok, Err, option_map, length-drop, length-append}
 use Rattle.std.specs.Prelude.{IfSome, if◌then◌else◌}
-use Rattle.std.proofs.lemmas.Bool.{lt-ltb, ltb-false}
+use Rattle.std.proofs.lemmas.Bool.{lt-ltb, ltb-false, ltb-true}
 use Rattle.std.proofs.lemmas.List.{append-nil, nil_from_length}
 use Rattle.osm_model.specs.Data.{VersionData}
 use Rattle.osm_files.specs.declared.fault.Fault.{Fault}
@@ -11,8 +11,9 @@ use Rattle.osm_files.specs.declared.extent.Extent.{Extent}
 use Rattle.osm_files.specs.Extent.{GivesExtent, extent_rest}
 use Rattle.osm_files.specs.ExtentGives.{extent_given}
 use Rattle.osm_files.specs.Fault.{IsOfFile}
+use Rattle.osm_files.specs.FileRuns.{IsReadFailure}
 use Rattle.osm_files.specs.Input.{InputRest, CanGive}
-use Rattle.osm_files.specs.Lines.{IsLineStart, IsFirstOf, IsFirstIn, IsFirstFrom, IsDeviceFault}
+use Rattle.osm_files.specs.Lines.{lines_from, IsLineStart, IsFirstOf, IsFirstIn, IsFirstFrom, IsDeviceFault}
 use Rattle.osm_files.specs.Opl.{OplFile}
 use Rattle.osm_files.specs.Position.{Position, fault_of, with_rest, with_input, units_from, units_or_failed, closing_verdict, window}
 use Rattle.osm_files.specs.ReadAt.{known_bytes}
@@ -21,6 +22,7 @@ use Rattle.osm_files.specs.Stream.{Verdict, verdict_at, Placed, SourceRest}
 use Rattle.osm_files.specs.Units.{InOpl, units}
 use Rattle.osm_files.specs.Verdict.{length_limit, versions_of}
 use Rattle.osm_files.proofs.FaultyLaws.{Units, Splits, splits}
+use Rattle.osm_files.proofs.LineStarts.{start_lines}
 use Rattle.osm_files.proofs.PositionLaws.{from_is}
 use Rattle.osm_files.proofs.UnitLaws.{ReadsAs, some_is_not_none, opl_reads}
 
@@ -77,59 +79,72 @@ first_listed us line more versions is same = subst (IsFirstOf (Some line.version
 none_listed : (us : List Placed) (versions : List VersionData) → us ≡ [] → versions_of us ≡ versions → IsFirstOf None versions
 none_listed us versions is same = subst (IsFirstOf None) (ap versions_of (sym is) ∙ same) refl
 
+-- the result for the first version of some lines
+abbrev Finds : Type 0 → List ℕ → Result (Option VersionData) Fault → Type 0
+Finds Fails lines (Ok first) = (versions : List VersionData) → OplFile lines versions → IsFirstOf first versions
+Finds Fails lines (Err fault) = IsReadFailure Fails fault ⊎ ((versions : List VersionData) → OplFile lines versions → ⊥)
+
+found_from : (Fails : Type 0) (all : List ℕ) (offset : ℕ) (result : Result (Option VersionData) Fault) →
+    Finds Fails (lines_from offset all) result → IsFirstIn Fails all offset result
+found_from Fails all offset (Ok first) h = h
+found_from Fails all offset (Err fault) (inl failure) = inl (inl failure)
+found_from Fails all offset (Err fault) (inr none) = inr none
+
 -- the result of the first call on the lines is a result for their first version
-first_in : (input place : ℕ) (bytes : List ℕ) (result : Result (Option Placed) Fault) (after : Option (SourceRest Placed Fault)) →
-    SourceStep (Some (with_input input (units None InOpl place bytes))) result after → IsFirstIn bytes (version_read result)
-first_in input place bytes (Ok None) after step = λ versions file.
+first_in : (Fails : Type 0) (input place : ℕ) (bytes : List ℕ) (result : Result (Option Placed) Fault)
+    (after : Option (SourceRest Placed Fault)) →
+    SourceStep (Some (with_input input (units None InOpl place bytes))) result after → Finds Fails bytes (version_read result)
+first_in Fails input place bytes (Ok None) after step = λ versions file.
     let read = (reads_lines place bytes).read versions file in
     none_listed (units None InOpl place bytes).list versions (ap (λ s. s.list) step.0) read.1
-first_in input place bytes (Ok (Some line)) after (t, is, rest) = λ versions file.
+first_in Fails input place bytes (Ok (Some line)) after (t, is, rest) = λ versions file.
     let read = (reads_lines place bytes).read versions file in
     first_listed (units None InOpl place bytes).list line t.list versions (ap (λ s. s.list) is) read.1
-first_in input place bytes (Err fault) after (why, next) =
+first_in Fails input place bytes (Err fault) after (why, next) =
     ⊎_elim (λ memory. inl (inl memory))
     (λ refused. inr (λ versions file. not_refused (λ (v : Verdict). record { input = input; place = v.place; reason = v.reason })
     (units None InOpl place bytes).refusal fault (ap (λ s. s.refusal) refused) ((reads_lines place bytes).read versions file).0)) why
 
 -- The result of the first call on lines that an error follows is a result for the first version of these lines and of
 -- whatever lines follow them.
-first_of_front : (input place : ℕ) (bytes more : List ℕ) (close : Verdict) → close.reason ≡ ReadFault → Splits InOpl place bytes →
-    (result : Result (Option Placed) Fault) (later : Option (SourceRest Placed Fault)) →
+first_of_front : (Fails : Type 0) → Fails → (input place : ℕ) (bytes more : List ℕ) (close : Verdict) → close.reason ≡ ReadFault
+    → Splits InOpl place bytes → (result : Result (Option Placed) Fault) (later : Option (SourceRest Placed Fault)) →
     SourceStep (Some (with_input input (units (Some close) InOpl place bytes))) result later →
-    IsFirstIn (bytes ++ more) (version_read result)
-first_of_front input place bytes more close fails (inr h) result later step =
-    first_in input place (bytes ++ more) result later
+    Finds Fails (bytes ++ more) (version_read result)
+first_of_front Fails may input place bytes more close fails (inr h) result later step =
+    first_in Fails input place (bytes ++ more) result later
     (subst (λ (us : Units). SourceStep (Some (with_input input us)) result later) (h.faulty close ∙ sym (h.stays more None)) step)
-first_of_front input place bytes more close fails (inl h) (Ok None) later step =
+first_of_front Fails may input place bytes more close fails (inl h) (Ok None) later step =
     absurd (some_is_not_none (fault_of input close)
     (sym (ap (λ us. option_map (fault_of input) us.refusal) (h.closes close)) ∙ ap (λ s. s.refusal) step.0))
-first_of_front input place bytes more close fails (inl h) (Ok (Some line)) later (t, is, rest) = λ versions file.
+first_of_front Fails may input place bytes more close fails (inl h) (Ok (Some line)) later (t, is, rest) = λ versions file.
     let read = (reads_lines place (bytes ++ more)).read versions file in
     let whole = h.longer more None in
     let listed : h.list ≡ line ∷ t.list = sym (ap (λ us. us.list) (h.closes close)) ∙ ap (λ s. s.list) is in
     first_listed (units None InOpl place (bytes ++ more)).list line (t.list ++ whole.0.list) versions
     (ap (λ us. us.list) whole.1 ∙ ap (λ us. us ++ whole.0.list) listed) read.1
-first_of_front input place bytes more close fails (inl h) (Err fault) later (why, next) =
+first_of_front Fails may input place bytes more close fails (inl h) (Err fault) later (why, next) =
     inl (⊎_elim (λ memory. inl memory)
     (λ refused.
     let found : Some (fault_of input close) ≡ Some fault =
     sym (ap (λ us. option_map (fault_of input) us.refusal) (h.closes close)) ∙ ap (λ s. s.refusal) refused in
     let same : fault_of input close ≡ fault = cc in
-    inr (inl (sym (ap (λ f. f.reason) same) ∙ fails))) why)
+    inr (may, ap (λ f. f.reason) (sym same) ∙ fails)) why)
 
 -- the result of the first call on an input that gives all of the lines, or a front of them and then an error
-first_of : (input place : ℕ) (lines bytes : List ℕ) (broken : Bool) → CanGive (Some lines) (record { bytes = bytes; broken = broken }) →
+first_of : (Fails : Type 0) (input place : ℕ) (lines bytes : List ℕ) (broken : Bool) → (broken ≡ true → Fails)
+    → CanGive (Some lines) (record { bytes = bytes; broken = broken }) →
     (result : Result (Option Placed) Fault) (later : Option (SourceRest Placed Fault)) →
     SourceStep (Some (with_input input (units (closing place (record { bytes = bytes; broken = broken })) InOpl place bytes))) result later
     →
-    IsFirstIn lines (version_read result)
-first_of input place lines bytes true (rest, is, whole) result later step =
-    subst (λ (xs : List ℕ). IsFirstIn xs (version_read result)) (sym is)
-    (first_of_front input place bytes rest (verdict_at (place + length bytes) ReadFault) refl
+    Finds Fails lines (version_read result)
+first_of Fails input place lines bytes true failing (rest, is, whole) result later step =
+    subst (λ (xs : List ℕ). Finds Fails xs (version_read result)) (sym is)
+    (first_of_front Fails (failing refl) input place bytes rest (verdict_at (place + length bytes) ReadFault) refl
     (splits (length bytes) InOpl place bytes (omega arith)) result later step)
-first_of input place lines bytes false (rest, is, whole) result later step =
-    subst (λ (xs : List ℕ). IsFirstIn xs (version_read result)) (sym (is ∙ ap (λ r. bytes ++ r) (whole refl) ∙ append-nil bytes))
-    (first_in input place bytes result later step)
+first_of Fails input place lines bytes false failing (rest, is, whole) result later step =
+    subst (λ (xs : List ℕ). Finds Fails xs (version_read result)) (sym (is ∙ ap (λ r. bytes ++ r) (whole refl) ∙ append-nil bytes))
+    (first_in Fails input place bytes result later step)
 
 -- an extent up to the end of a file gives all of its bytes from the offset on, or a front of them and then an error
 extent_can : (Fails : Type 0) (all : List ℕ) (start : ℕ) (c : InputRest) → GivesExtent Fails (Some all) start (length all) c →
@@ -143,6 +158,15 @@ extent_can Fails all start c gives = (
       (omega (arith, long, length-drop start all, ap length gives.bytes.1, length-append c.bytes gives.bytes.0))),
 )
 
+-- if an extent up to the end of a file fails, reads of the file may fail
+extent_fails : (Fails : Type 0) (all : List ℕ) (start : ℕ) (c : InputRest) → GivesExtent Fails (Some all) start (length all) c →
+    c.broken ≡ true → Fails
+extent_fails Fails all start c gives broken =
+    let short = ltb-true (length c.bytes) (length all - start) (sym gives.broken ∙ broken) in
+    ⊎_elim (λ fails. fails)
+    (λ last. absurd (omega (arith, short, ap length last, length-drop start all)))
+    (gives.why short)
+
 refusal_input : (input : ℕ) (refusal : Option Verdict) (fault : Fault) → option_map (fault_of input) refusal ≡ Some fault →
     fault.input ≡ input
 refusal_input input None fault is = absurd (let e : None ≡ Some fault = is in cc)
@@ -153,18 +177,21 @@ module _ {R : Type 0} (can : R → InputRest → Type 0) (one : R → InputRest)
   first_given : (Fails : Type 0) (bytes : Option (List ℕ)) (offset start size : ℕ) (reader : R) → IsLineStart bytes offset start →
       start < 2 ^ 62 → IfSome bytes (λ all. size ≡ length all) →
       ((c : InputRest) → can reader c → GivesExtent Fails bytes start size c) → (result : Result (Option Placed) Fault)
-      (q : Position R) → StepsOn can (of_lines input start reader) result q → IsFirstFrom bytes offset (version_read result)
+      (q : Position R) → StepsOn can (of_lines input start reader) result q → IsFirstFrom Fails bytes offset (version_read result)
   first_given Fails None offset start size reader begins bound sized gives result q steps = tt
   first_given Fails (Some all) offset start size reader begins bound sized gives result q steps = λ short.
       let y = steps (one q.rest) (possible q.rest) in
       let later : Option (SourceRest Placed Fault) = units_or_failed (with_rest q (one q.rest)) in
-      let given : CanGive (Some (drop start all)) y.0 =
-      extent_can Fails all start y.0 (subst (λ n. GivesExtent Fails (Some all) start n y.0) sized (gives y.0 y.1)) in
+      let extent : GivesExtent Fails (Some all) start (length all) y.0 =
+      subst (λ n. GivesExtent Fails (Some all) start n y.0) sized (gives y.0 y.1) in
+      let given : CanGive (Some (drop start all)) y.0 = extent_can Fails all start y.0 extent in
+      let lines : drop start all ≡ lines_from offset all = ap (λ n. drop n all) begins ∙ start_lines offset all in
       let few : start + length y.0.bytes < 2 ^ 62 =
       omega (arith, bound, short, length-drop start all, ap length given.1, length-append y.0.bytes given.0) in
-      subst (λ (lines : List ℕ). IsFirstIn lines (version_read result)) begins
-      (first_of input start (drop start all) y.0.bytes y.0.broken given result later
-      (subst (λ us. SourceStep (Some (with_input input us)) result later) (units_of_lines start y.0 few) y.2))
+      found_from Fails all offset (version_read result)
+      (subst (λ (lines : List ℕ). Finds Fails lines (version_read result)) lines
+      (first_of Fails input start (drop start all) y.0.bytes y.0.broken (extent_fails Fails all start y.0 extent) given result later
+      (subst (λ us. SourceStep (Some (with_input input us)) result later) (units_of_lines start y.0 few) y.2)))
 
   -- a fault of the first call on the lines has the number of the file
   number_given : (start : ℕ) (reader : R) (fault : Fault) (q : Position R) →
@@ -193,7 +220,7 @@ module _ {F : Type 0} (fails : F → Type 0) (bytes : F → Option (List ℕ)) w
     -- the lines from `offset` on.
     pub first_is : (file : F) (offset size : ℕ) → reader.file.now ≡ file → reader.next ≡ start → reader.end ≡ size
         → IsLineStart (bytes file) offset start → start < 2 ^ 62 → IfSome (bytes file) (λ all. size ≡ length all)
-        → IsFirstFrom (bytes file) offset (version_read result)
+        → IsFirstFrom (fails file) (bytes file) offset (version_read result)
     first_is file offset size same from upto lines bound sized =
         first_given Given one possible input (fails file) (bytes file) offset start size reader lines bound sized
         (λ c. subst (λ (t : F × ℕ × ℕ). GivesExtent (fails t.0) (bytes t.0) t.1 t.2 c) (λ i. (same i, from i, upto i))) result q steps
@@ -205,9 +232,10 @@ module _ {F : Type 0} (fails : F → Type 0) (bytes : F → Option (List ℕ)) w
         (subst (λ r. StepsOn Given (of_lines input start reader) r q) is steps)
 
 -- a device fault is a result for the first version
-pub device_fault : (bytes : Option (List ℕ)) (offset : ℕ) (fault : Fault) → IsDeviceFault fault → IsFirstFrom bytes offset (Err fault)
-device_fault None offset fault h = tt
-device_fault (Some all) offset fault h = λ short. inl h
+pub device_fault : (Fails : Type 0) (bytes : Option (List ℕ)) (offset : ℕ) (fault : Fault) → IsDeviceFault Fails bytes offset fault
+    → IsFirstFrom Fails bytes offset (Err fault)
+device_fault Fails None offset fault h = tt
+device_fault Fails (Some all) offset fault h = λ short. inl h
 
 -- the lines of a file spell one list of versions
 pub one_opl : (bytes : List ℕ) (versions others : List VersionData) → OplFile bytes versions → OplFile bytes others → versions ≡ others

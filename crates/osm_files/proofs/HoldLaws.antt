@@ -115,12 +115,12 @@ groups_listed input None us closed none = members_are (groups input None us []).
     (λ v. groups_members input v us none)
 
 -- the set of the list of a set is the set
-set_listed : (s : VersionSet) → from_list {R = version_cmp} (to_list s) ≡ s
+pub set_listed : (s : VersionSet) → from_list {R = version_cmp} (to_list s) ≡ s
 set_listed s = same_set version_cmp_total version_cmp-IsAntisymmetric (from_list (to_list s)) s
     (λ v. contains-from_list version_cmp_total (to_list s) v ∙ sym (contains-listed {R = version_cmp} s v))
 
 -- the source of a file by its units
-source_whole : (input : ℕ) (bytes : List ℕ) → sorted_source input (all_of bytes)
+pub source_whole : (input : ℕ) (bytes : List ℕ) → sorted_source input (all_of bytes)
     ≡ (let us = file_units bytes in groups input (option_map (fault_of input) us.refusal) us.list [])
 source_whole input bytes =
     source_is input (all_of bytes) ∙ ap (λ (s : SourceRest Placed Verdict). groups input (option_map (fault_of input) s.refusal) s.list [])
@@ -176,7 +176,7 @@ whole_source_is_held input bytes end_whole =
     subst (HoldsSorted bytes) same (sorted_file bytes (versions_of us.list) none refl)
 
 -- ---- an error after the bytes
-broken_units : (bytes : List ℕ) → length bytes < 2 ^ 62 →
+pub broken_units : (bytes : List ℕ) → length bytes < 2 ^ 62 →
     units_from None 0 (broken_after bytes) ≡ units (Some (verdict_at (length bytes) ReadFault)) (start_of bytes) 0 bytes
 unfolding units_from length_limit
 broken_units bytes short =

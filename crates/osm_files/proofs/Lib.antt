@@ -22,6 +22,7 @@ pub mod HoldLaws
 pub mod FaultyLaws
 mod PlaceLaws
 pub mod RefusedLaws
+pub mod FirstFaultLaws
 pub mod SpellSteps
 pub mod SinkLaws
 pub mod SpellLaws
@@ -29,16 +30,20 @@ pub mod StartLaws
 pub mod SplitLaws
 pub mod RangeLaws
 pub mod LineLists
-mod LineStarts
+pub mod LineStarts
 pub mod FirstLaws
 mod WholeLinesLaws
 mod EndMarkLaws
 mod ByteLaws
 mod ExtentLaws
 mod OpenLaws
+mod RecordedLaws
 pub mod RunBytes
 mod UnsortedLaws
 pub mod RunOrderLaws
+pub mod FrontLaws
 pub mod JoinLaws
 mod RestLaws
+mod LineKeyLaws
+mod KeyOrderLaws
 mod FileRunLaws

@@ -1,74 +1,212 @@
 -- The offsets at which lines begin in a file.
-use Rattle.std.proofs.Common.{◌≡◌, ℕ, zero, suc, ◌+◌, ◌-◌, ◌≤◌, ◌<◌, true, false, cond, not, List, [], ◌∷◌, ◌++◌, length, drop}
-use Rattle.std.proofs.Common.{refl, sym, ap, ◌∙◌, arith, Option, Some, None}
+use Rattle.std.proofs.Common.{◌≡◌, ℕ, zero, suc, ◌+◌, ◌-◌, ◌≤◌, ◌<◌, max, ◌^◌, true, false, cond, not, Bool, List, [], ◌∷◌, ◌++◌, length}
+use Rattle.std.proofs.Common.{drop, refl, sym, ap, ◌∙◌, arith, Option, Some, None, ◌⊎◌, inl, inr, ⊎_elim, length-drop, length-append, subst}
 use Rattle.std.proofs.lemmas.List.{drop-drop}
 use Rattle.std.specs.Prelude.{position, IfSome}
 use Rattle.std.specs.List.{position_or_len}
 use Rattle.opl_line.specs.Delimiter.{is_line_end}
-use Rattle.osm_files.specs.Lines.{after_line, lines_from, IsLineStart}
+use Rattle.osm_files.specs.Lines.{after_line, lines_from, line_size, line_start_from, BeginsLine, IsLineStart}
 use Rattle.osm_files.specs.ReadAt.{AreAt, AreLast}
 use Rattle.osm_files.proofs.ExtentLaws.{after_front}
 use Rattle.osm_files.proofs.SearchLaws.{nowhere, somewhere}
 
-after_len : (front rest : List ℕ) → length front ≤ position_or_len is_line_end front → after_line (front ++ rest) ≡ after_line rest
-after_len [] rest far = refl
-after_len (b ∷ front) rest far =
+-- ---- the size of a line
+size_len : (front rest : List ℕ) → length front ≤ position_or_len is_line_end front →
+    line_size (front ++ rest) ≡ length front + line_size rest
+size_len [] rest far = omega arith
+size_len (b ∷ front) rest far =
     elim (is_line_end b) as (λ t. suc (length front) ≤ cond (not t) (1 + position_or_len is_line_end front) 0 →
-    cond t (front ++ rest) (after_line (front ++ rest)) ≡ after_line rest) [
+    cond t 1 (suc (line_size (front ++ rest))) ≡ suc (length front) + line_size rest) [
       | true ↦ λ few. absurd (omega (arith, few))
-      | false ↦ λ few. after_len front rest (omega (arith, few))
+      | false ↦ λ few. (let more = size_len front rest (omega (arith, few)) in omega (arith, more))
     ] far
 
--- if the first bytes have no end of a line, the lines begin after the first end in the rest
-pub after_none : (front rest : List ℕ) → position is_line_end front ≡ None → after_line (front ++ rest) ≡ after_line rest
-after_none front rest none = after_len front rest (nowhere is_line_end front none)
-
-after_at : (front rest : List ℕ) (end : ℕ) → position_or_len is_line_end front ≡ end → end < length front →
-    after_line (front ++ rest) ≡ drop (end + 1) (front ++ rest)
-after_at [] rest end is near = absurd (omega (arith, near))
-after_at (b ∷ front) rest end is near =
+size_at : (front rest : List ℕ) (end : ℕ) → position_or_len is_line_end front ≡ end → end < length front →
+    line_size (front ++ rest) ≡ end + 1
+size_at [] rest end is near = absurd (omega (arith, near))
+size_at (b ∷ front) rest end is near =
     elim (is_line_end b) as (λ t. cond (not t) (1 + position_or_len is_line_end front) 0 ≡ end →
-    cond t (front ++ rest) (after_line (front ++ rest)) ≡ drop (end + 1) (b ∷ (front ++ rest))) [
-      | true ↦ λ zero_it_is. let e : end + 1 ≡ 1 = omega (arith, zero_it_is) in rw e refl
-      | false ↦ λ more.
-          let e : end + 1 ≡ suc (position_or_len is_line_end front + 1) = omega (arith, more) in
-          rw e (after_at front rest (position_or_len is_line_end front) refl (omega (arith, more, near)))
+    cond t 1 (suc (line_size (front ++ rest))) ≡ end + 1) [
+      | true ↦ λ none. omega (arith, none)
+      | false ↦ λ more. (let on = size_at front rest (position_or_len is_line_end front) refl (omega (arith, more, near)) in
+          omega (arith, more, on))
     ] is
 
--- the lines begin after the first end of a line
-pub after_some : (front rest : List ℕ) (end : ℕ) → position is_line_end front ≡ Some end →
-    after_line (front ++ rest) ≡ drop (end + 1) (front ++ rest)
-after_some front rest end found =
-    let at = somewhere is_line_end front end found in after_at front rest end at.0 at.1
+size_within : (bytes : List ℕ) → line_size bytes ≤ length bytes
+size_within [] = omega arith
+size_within (b ∷ bytes) =
+    let more = size_within bytes in
+    elim (is_line_end b) as (λ t. cond t 1 (suc (line_size bytes)) ≤ suc (length bytes)) [
+      | true ↦ omega arith
+      | false ↦ omega (arith, more)
+    ]
 
--- the lines from an offset on begin after the first end of a line at `place` or after it, if the file's bytes are known
+after_is_drop : (bytes : List ℕ) → after_line bytes ≡ drop (line_size bytes) bytes
+after_is_drop [] = refl
+after_is_drop (b ∷ bytes) =
+    elim (is_line_end b) as (λ t. cond t bytes (after_line bytes) ≡ drop (cond t 1 (suc (line_size bytes))) (b ∷ bytes)) [
+      | true ↦ refl
+      | false ↦ after_is_drop bytes
+    ]
+
+-- the last byte of a line is a line's size of its own
+last_byte : (t : Bool) → cond {A = ℕ} t 1 1 ≡ 1
+last_byte true = refl
+last_byte false = refl
+
+-- the first line has a last byte, after which the next line begins
+size_last : (b : ℕ) (bytes : List ℕ) → (j : ℕ) × (line_size (b ∷ bytes) ≡ suc j) × (line_size (drop j (b ∷ bytes)) ≡ 1)
+size_last b [] = (0, last_byte (is_line_end b), last_byte (is_line_end b))
+size_last b (c ∷ bytes) =
+    elim (is_line_end b) as (λ t. is_line_end b ≡ t → (j : ℕ) × (cond t 1 (suc (line_size (c ∷ bytes))) ≡ suc j)
+    × (line_size (drop j (b ∷ c ∷ bytes)) ≡ 1)) [
+      | true ↦ λ e. (0, refl, ap (λ t. cond t 1 (suc (line_size (c ∷ bytes)))) e)
+      | false ↦ λ e. (let more = size_last c bytes in (suc more.0, ap suc more.1, more.2))
+    ] refl
+
+-- ---- the offsets of lines
+-- the lines from an offset on are the bytes from the start of the first one on
+pub start_lines : (offset : ℕ) (all : List ℕ) → drop (line_start_from offset all) all ≡ lines_from offset all
+start_lines zero all = refl
+start_lines (suc n) all =
+    sym (drop-drop (line_size (drop n all)) n all) ∙ sym (after_is_drop (drop n all))
+
+pub start_within : (offset : ℕ) (all : List ℕ) → offset ≤ length all → line_start_from offset all ≤ length all
+start_within zero all within = omega arith
+start_within (suc n) all within =
+    let few = size_within (drop n all) in
+    omega (arith, within, few, length-drop n all)
+
+begins_at : (n : ℕ) (all : List ℕ) (xs : List ℕ) → drop n all ≡ xs → 0 < length xs → BeginsLine all (n + line_size xs)
+begins_at n all [] is some = absurd (omega (arith, some))
+begins_at n all (b ∷ bytes) is some =
+    let last = size_last b bytes in
+    let at : n + line_size (b ∷ bytes) ≡ suc (n + last.0) = omega (arith, last.1) in
+    let there : drop (n + last.0) all ≡ drop last.0 (b ∷ bytes) = sym (drop-drop last.0 n all) ∙ ap (drop last.0) is in
+    let one : line_size (drop (n + last.0) all) ≡ 1 = ap line_size there ∙ last.2 in
+    subst (BeginsLine all) (sym at) (omega (arith, one))
+
+-- a line begins at the start of the first line from an offset on
+pub start_begins : (offset : ℕ) (all : List ℕ) → offset ≤ length all → BeginsLine all (line_start_from offset all)
+start_begins zero all within = refl
+start_begins (suc n) all within = begins_at n all (drop n all) refl (omega (arith, within, length-drop n all))
+
+-- no line begins in the last byte
+one_byte : (bytes : List ℕ) → length bytes ≡ 1 → line_size bytes ≡ 1
+one_byte [] is = absurd (omega (arith, is))
+one_byte (b ∷ []) is = last_byte (is_line_end b)
+one_byte (b ∷ c ∷ bytes) is = absurd (omega (arith, is))
+
+end_at : (n : ℕ) (all : List ℕ) → length all ≡ n → BeginsLine all n
+end_at zero all is = refl
+end_at (suc n) all is =
+    let one = one_byte (drop n all) (omega (arith, is, length-drop n all)) in omega (arith, one)
+
+-- the end of a file counts as the beginning of a line
+pub end_begins : (all : List ℕ) → BeginsLine all (length all)
+end_begins all = end_at (length all) all refl
+
+pub next_drop : (offset : ℕ) (bytes : List ℕ) → ((drop offset bytes ≡ []) × (drop (suc offset) bytes ≡ []))
+    ⊎ ((b : ℕ) × (drop offset bytes ≡ b ∷ drop (suc offset) bytes))
+next_drop zero [] = inl (refl, refl)
+next_drop zero (b ∷ bytes) = inr (b, refl)
+next_drop (suc offset) [] = inl (refl, refl)
+next_drop (suc offset) (b ∷ bytes) = next_drop offset bytes
+
+size_next : (b : ℕ) (bytes : List ℕ) → line_size (b ∷ bytes) ≤ suc (line_size bytes)
+size_next b bytes = elim (is_line_end b) as (λ t. cond t 1 (suc (line_size bytes)) ≤ suc (line_size bytes)) [
+  | true ↦ omega arith
+  | false ↦ omega arith
+]
+
+start_next : (offset : ℕ) (all : List ℕ) → line_start_from offset all ≤ line_start_from (suc offset) all
+start_next zero all = omega arith
+start_next (suc n) all =
+    ⊎_elim (λ none. (let few = ap line_size none.0 in omega (arith, few)))
+    (λ (b, is). (let one = ap line_size is in let few = size_next b (drop (suc n) all) in omega (arith, one, few)))
+    (next_drop n all)
+
+start_on : (more offset : ℕ) (all : List ℕ) → line_start_from offset all ≤ line_start_from (offset + more) all
+start_on zero offset all = let e : offset + 0 ≡ offset = omega arith in rw e (omega arith)
+start_on (suc more) offset all =
+    let e : offset + suc more ≡ suc (offset + more) = omega arith in
+    let so_far = start_on more offset all in
+    let next = start_next (offset + more) all in
+    let is = ap (λ n. line_start_from n all) e in
+    omega (arith, so_far, next, is)
+
+-- the first line from a later offset on begins no earlier
+pub starts_rise : (offset later : ℕ) (all : List ℕ) → offset ≤ later → line_start_from offset all ≤ line_start_from later all
+starts_rise offset later all low =
+    let e : offset + (later - offset) ≡ later = omega (arith, low) in
+    let on = start_on (later - offset) offset all in
+    let is = ap (λ n. line_start_from n all) e in
+    omega (arith, on, is)
+
+-- ---- the search
+-- the first line from `offset` on begins after the first end of a line at `place` or after it
+pub record Scan (all : List ℕ) (offset place : ℕ) : Type 0 where
+  pub start : line_start_from offset all ≡ place + line_size (drop place all)
+  pub near : place ≤ max (length all) offset
+
+-- the same, if the file's bytes are known
 abbrev pub Scanned : Option (List ℕ) → ℕ → ℕ → Type 0
-Scanned bytes offset place = IfSome bytes (λ all. lines_from offset all ≡ after_line (drop place all))
+Scanned bytes offset place = IfSome bytes (λ all. Scan all offset place)
 
 pub scanned_nothing : (bytes : Option (List ℕ)) (offset : ℕ) → 0 < offset → Scanned bytes offset (offset - 1)
 scanned_nothing None offset some = tt
 scanned_nothing (Some all) zero some = absurd (omega (arith, some))
-scanned_nothing (Some all) (suc n) some = let e : suc n - 1 ≡ n = omega arith in rw e refl
+scanned_nothing (Some all) (suc n) some = let e : suc n - 1 ≡ n = omega arith in rw e (record { start = refl; near = omega arith })
+
+-- the bytes that were read are within the file
+read_within : (all read rest : List ℕ) (place : ℕ) → drop place all ≡ read ++ rest → length read ≤ length all - place
+read_within all read rest place at = omega (arith, length-drop place all, ap length at, length-append read rest)
 
 -- A search that reads bytes without an end of a line continues after these bytes.
 pub scans_on : (bytes : Option (List ℕ)) (offset place later : ℕ) (read : List ℕ) → Scanned bytes offset place → AreAt bytes place read
     → position is_line_end read ≡ None → later ≡ place + length read → Scanned bytes offset later
 scans_on None offset place later read so_far at none is = tt
 scans_on (Some all) offset place later read so_far (rest, at) none is =
-    rw is (so_far ∙ ap after_line at ∙ after_none read rest none ∙ ap after_line (sym (after_front all read rest place at)))
+    let few = read_within all read rest place at in
+    let start = so_far.start in
+    let near = so_far.near in
+    let size = ap line_size at ∙ size_len read rest (nowhere is_line_end read none) in
+    let further = ap line_size (after_front all read rest place at) in
+    rw is (record { start = omega (arith, start, size, further); near = omega (arith, near, few) })
 
 -- A search that reads an end of a line finds the line that begins after it.
 pub scan_finds : (bytes : Option (List ℕ)) (offset place start : ℕ) (read : List ℕ) (end : ℕ) → Scanned bytes offset place
     → AreAt bytes place read → position is_line_end read ≡ Some end → start ≡ place + (end + 1) → IsLineStart bytes offset start
 scan_finds None offset place start read end so_far at found is = tt
 scan_finds (Some all) offset place start read end so_far (rest, at) found is =
-    rw is (sym (drop-drop (end + 1) place all) ∙ ap (drop (end + 1)) at ∙ sym (so_far ∙ ap after_line at ∙ after_some read rest end found))
+    let line = somewhere is_line_end read end found in
+    let size = ap line_size at ∙ size_at read rest end line.0 line.1 in
+    let begun = so_far.start in
+    omega (arith, is, size, begun)
+
+-- A search that finds a line at 2^62 or after it is one in a file of 2^62 bytes or more.
+pub scan_is_long : (bytes : Option (List ℕ)) (offset place start : ℕ) (read : List ℕ) (end : ℕ) → AreAt bytes place read
+    → position is_line_end read ≡ Some end → start ≡ place + (end + 1) → 2 ^ 62 ≤ start
+    → IfSome bytes (λ all. 2 ^ 62 ≤ max (length all) offset)
+scan_is_long None offset place start read end at found is long = tt
+scan_is_long (Some all) offset place start read end (rest, at) found is long =
+    let line = somewhere is_line_end read end found in
+    let near = line.1 in
+    let few = read_within all read rest place at in
+    omega (arith, is, long, near, few)
+
+-- A search that comes to 2^62 is one in a file of 2^62 bytes or more, or from 2^62 on or later.
+pub scan_stops : (bytes : Option (List ℕ)) (offset place : ℕ) → Scanned bytes offset place → 2 ^ 62 ≤ place
+    → IfSome bytes (λ all. 2 ^ 62 ≤ max (length all) offset)
+scan_stops None offset place so_far long = tt
+scan_stops (Some all) offset place so_far long = let near = so_far.near in omega (arith, near, long)
 
 -- After the last byte no line begins.
 pub scan_ends : (bytes : Option (List ℕ)) (offset place : ℕ) → Scanned bytes offset place → AreLast bytes place []
     → IsLineStart bytes offset place
 scan_ends None offset place so_far last = tt
-scan_ends (Some all) offset place so_far last = last ∙ sym (so_far ∙ ap after_line last)
+scan_ends (Some all) offset place so_far last =
+    let start = so_far.start in let none = ap line_size last in omega (arith, start, none)
 
 -- the first line begins at the file's first byte
 pub first_start : (bytes : Option (List ℕ)) → IsLineStart bytes 0 0

@@ -324,7 +324,7 @@ same_read v w s t e =
     let f : here ≡ there = cc in
     (ap (λ x. x.0) f, ap (λ x. x.1) f)
 
-byte_of : (k : Kind) (b : ℕ) → kind_of_type b ≡ Some k → b ≡ type_byte k
+pub byte_of : (k : Kind) (b : ℕ) → kind_of_type b ≡ Some k → b ≡ type_byte k
 byte_of k b e =
     elim (b == 16) as (λ t. (b == 16) ≡ t → cond t (Some kind.Node)
     (cond (b == 17) (Some kind.Way) (cond (b == 18) (Some kind.Relation) None)) ≡ Some k → b ≡ type_byte k) [
@@ -343,23 +343,23 @@ abbrev pub ReadsParts : ℕ → Type 0
 ReadsParts n = (s : Segment) (bytes : List ℕ) (place : ℕ) → length bytes ≤ n →
     ReadsAs (units_within n None (InSegment s) place bytes) (PartsFile s bytes)
 
-last_in_set : (s : Segment) (b : ℕ) (bytes : List ℕ) → last_at (InSegment s) (b ∷ bytes) ≡ Err (O5 o5.Truncated)
+pub last_in_set : (s : Segment) (b : ℕ) (bytes : List ℕ) → last_at (InSegment s) (b ∷ bytes) ≡ Err (O5 o5.Truncated)
 unfolding last_at
 last_in_set s b bytes = refl
 
-last_in_segment : (s : Segment) → last_at (InSegment s) [] ≡ Err NoEnd
+pub last_in_segment : (s : Segment) → last_at (InSegment s) [] ≡ Err NoEnd
 unfolding last_at
 last_in_segment s = refl
 
-last_after : (bytes : List ℕ) → last_at PastEnd bytes ≡ Ok (None, PastEnd)
+pub last_after : (bytes : List ℕ) → last_at PastEnd bytes ≡ Ok (None, PastEnd)
 unfolding last_at
 last_after bytes = refl
 
-unit_in_segment : (s : Segment) (bytes : List ℕ) → unit_at (InSegment s) bytes ≡ segment_unit s bytes
+pub unit_in_segment : (s : Segment) (bytes : List ℕ) → unit_at (InSegment s) bytes ≡ segment_unit s bytes
 unfolding unit_at
 unit_in_segment s bytes = refl
 
-unit_after : (bytes : List ℕ) → unit_at PastEnd bytes ≡ unit_after_end bytes
+pub unit_after : (bytes : List ℕ) → unit_at PastEnd bytes ≡ unit_after_end bytes
 unfolding unit_at
 unit_after bytes = refl
 

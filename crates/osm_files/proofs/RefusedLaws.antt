@@ -45,11 +45,11 @@ less_upto u v w less up =
     ] refl up
 
 -- ---- the last of some versions
-abbrev last_of : VersionData → List VersionData → VersionData
+abbrev pub last_of : VersionData → List VersionData → VersionData
 last_of v [] = v
 last_of v (w ∷ ws) = last_of w ws
 
-at_last : (v : VersionData) (ws : List VersionData) (n : ℕ) → n ≡ length ws → slice_get (v ∷ ws) n ≡ Some (last_of v ws)
+pub at_last : (v : VersionData) (ws : List VersionData) (n : ℕ) → n ≡ length ws → slice_get (v ∷ ws) n ≡ Some (last_of v ws)
 at_last v [] n e = ap (slice_get (v ∷ [])) e
 at_last v (w ∷ ws) n e = ap (slice_get (v ∷ w ∷ ws)) e ∙ at_last w ws (length ws) refl
 
@@ -110,11 +110,11 @@ module _ (v first : VersionData) (others : List VersionData) (group : IsGroup fi
 
 -- ---- the units before a fault
 module _ (fault : Verdict) where
-  abbrev is_early : Placed → Bool
+  abbrev pub is_early : Placed → Bool
   is_early unit = nat_lt unit.place fault.place
 
   -- the versions of the units that begin before the fault
-  abbrev early : List Placed → List VersionData
+  abbrev pub early : List Placed → List VersionData
   early us = versions_of (filter is_early us)
 
   early_by : (u : Placed) (us : List Placed) (t : Bool) → is_early u ≡ t
@@ -129,7 +129,7 @@ module _ (fault : Verdict) where
 
   module _ (close : Option Verdict) where
     -- the units from this offset on meet the fault, if this version is before them
-    abbrev Meets : Option VersionData → ℕ → List Placed → Type 0
+    abbrev pub Meets : Option VersionData → ℕ → List Placed → Type 0
     Meets before from us = Follow from us close × (sorted_verdict close before us ≡ Some fault)
 
     module _ (before : Option VersionData) (u : Placed) (us : List Placed) (met : sorted_verdict close before (u ∷ us) ≡ Some fault) where
@@ -155,12 +155,12 @@ module _ (fault : Verdict) where
         ] refl
 
     module _ (before : Option VersionData) (from : ℕ) (u : Placed) (us : List Placed) (m : Meets before from (u ∷ us)) where
-      stops : is_below u.version before ≡ true → early (u ∷ us) ≡ []
+      pub stops : is_below u.version before ≡ true → early (u ∷ us) ≡ []
       stops e =
           let place = at_fault before u us m.1 e in
           none_early u.place (u ∷ us) close (omega arith, m.0.1) (omega (arith, place))
 
-      goes_on : is_below u.version before ≡ false → (early (u ∷ us) ≡ u.version ∷ early us) × Meets (Some u.version) (u.place + 1) us
+      pub goes_on : is_below u.version before ≡ false → (early (u ∷ us) ≡ u.version ∷ early us) × Meets (Some u.version) (u.place + 1) us
       goes_on e =
           let on : Meets (Some u.version) (u.place + 1) us = (m.0.1, met_by before u us m.1 false e) in
           let later = fault_from (u.place + 1) us (Some u.version) on in

@@ -1,5 +1,5 @@
 -- The rest of a file that is split is a file.
-use Rattle.std.proofs.Common.{◌≡◌, ℕ, ◌+◌, List, [], ◌∷◌, ◌++◌, length, refl, sym, ap}
+use Rattle.std.proofs.Common.{◌≡◌, ℕ, List, [], ◌∷◌, ◌++◌, length, refl, sym, ap}
 use Rattle.std.proofs.Common.{◌∙◌, subst, arith, length-append, append_assoc}
 use Rattle.std.proofs.Math.Seq.{take-append_seam, drop-append_seam}
 use Rattle.osm_model.specs.Data.{VersionData}
@@ -30,6 +30,21 @@ lines_rest file rest bytes c (held, holds) =
         short = omega (arith, holds.short, ap length c.whole, length-append file rest);
         versions = parts.later;
         file = rw c.more_lines parts.second;
+        members = refl;
+      },
+    )
+
+-- The lines of a file up to the end of one are a file.
+pub lines_front : (file rest bytes : List ℕ) → SplitAfterLine file rest bytes → IsAccepted bytes → IsAccepted file
+lines_front file rest bytes c (held, holds) =
+    let lines : OplFile bytes holds.versions = rw (split_starts file rest bytes c) at holds.file in
+    let parts = split_ended bytes file rest holds.versions c.whole
+    (record { text = c.front; last = c.last; ends = c.ends; is = c.is_file }) lines in (
+      _,
+      record {
+        short = omega (arith, holds.short, ap length c.whole, length-append file rest);
+        versions = parts.earlier;
+        file = rw c.lines parts.first;
         members = refl;
       },
     )

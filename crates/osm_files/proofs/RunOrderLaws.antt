@@ -42,7 +42,7 @@ part_front front rest size fits =
     ap (λ n. take n (front ++ rest)) all ∙ take-append-add front rest (size - length front)
 
 -- What a run gives before it fails is the front of its bytes.
-run_front : (Fails : Type 0) (all : List ℕ) (run : SortedRun) (size : ℕ) (bytes : List ℕ)
+pub run_front : (Fails : Type 0) (all : List ℕ) (run : SortedRun) (size : ℕ) (bytes : List ℕ)
     → GivesRun Fails (Some all) run size (broken_after bytes) → IsFront bytes (run_bytes run all)
 run_front Fails all run size bytes (given, gives, is) =
     let before : List ℕ = bytes_before run in

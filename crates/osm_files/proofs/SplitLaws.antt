@@ -14,7 +14,8 @@ use Rattle.osm_files.specs.SortedRun.{bytes_after, run_bytes, is_reset, ends_lin
 use Rattle.osm_files.specs.SortedRun.{front_run, rest_run}
 
 -- ---- lists
-slice_get-drop : (n : ℕ) (xs : List ℕ) (i : ℕ) → slice_get (drop n xs) i ≡ slice_get xs (n + i)
+-- A byte after others.
+pub slice_get-drop : (n : ℕ) (xs : List ℕ) (i : ℕ) → slice_get (drop n xs) i ≡ slice_get xs (n + i)
 slice_get-drop zero xs i = ap (slice_get xs) (omega arith)
 slice_get-drop (suc n) [] i = refl
 slice_get-drop (suc n) (x ∷ xs) i = let e : suc (n + i) ≡ suc n + i = omega arith in slice_get-drop n xs i ∙ ap (slice_get (x ∷ xs)) e

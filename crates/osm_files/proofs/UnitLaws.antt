@@ -115,11 +115,11 @@ nothing (v ∷ versions) h = absurd h
 nothing_more : ReadsAs end_whole (LineFile [])
 nothing_more = record { read = λ versions h. (refl, nothing versions h); back = λ none. tt }
 
-unit_in_opl : (bytes : List ℕ) → unit_at InOpl bytes ≡ line_unit (split_first is_line_end bytes)
+pub unit_in_opl : (bytes : List ℕ) → unit_at InOpl bytes ≡ line_unit (split_first is_line_end bytes)
 unfolding unit_at
 unit_in_opl bytes = refl
 
-last_in_opl : (bytes : List ℕ) → last_at InOpl bytes ≡ line_found (reading_line bytes)
+pub last_in_opl : (bytes : List ℕ) → last_at InOpl bytes ≡ line_found (reading_line bytes)
 unfolding last_at
 last_in_opl bytes = refl
 

@@ -1,6 +1,6 @@
 -- The runs that are found in a file: own rules of this project.
-use Rattle.std.specs.Prelude.{◌≡◌, ◌⊎◌, ℕ, false, List, [], ◌∷◌, ◌++◌, length, Option, Some, None, IfSome, Result, Ok}
-use Rattle.std.specs.Prelude.{Err}
+use Rattle.std.specs.Prelude.{◌≡◌, ◌⊎◌, ℕ, Bool, false, not, ◌||◌, List, [], ◌∷◌, ◌++◌, length, Option, Some, None}
+use Rattle.std.specs.Prelude.{IfSome, Result, Ok, Err}
 use Rattle.osm_model.specs.Data.{VersionData}
 use Rattle.osm_model.specs.VersionSet.{VersionSet}
 use Rattle.osm_files.specs.declared.fault.Fault.{Fault}
@@ -9,7 +9,7 @@ use Rattle.osm_files.specs.declared.sorted_run.SortedRun.{SortedRun}
 use Rattle.osm_files.specs.Fault.{memory_fault}
 use Rattle.osm_files.specs.Held.{Holds, HoldsSorted}
 use Rattle.osm_files.specs.Input.{InputRest}
-use Rattle.osm_files.specs.SortedRun.{run_bytes, offset_in_file}
+use Rattle.osm_files.specs.SortedRun.{run_bytes, offset_in_file, is_reset, front_run}
 use Rattle.osm_files.specs.Stream.{verdict_at, SourceRest}
 use Rattle.osm_files.specs.Verdict.{verdict_sorted}
 
@@ -30,11 +30,6 @@ GivesSortedFile c = (c.broken ≡ false) × ((held : VersionSet) × HoldsSorted 
 abbrev pub IsSortedRun : List ℕ → SortedRun → Type 0
 IsSortedRun file run = (held : VersionSet) × HoldsSorted (run_bytes run file) held
 
--- the last of the runs of this file is a sorted file
-abbrev pub LastIsSorted : List ℕ → List SortedRun → Type 0
-LastIsSorted file runs =
-    (fronts : List SortedRun) × (last : SortedRun) × (runs ≡ fronts ++ last ∷ []) × IsSortedRun file last
-
 -- if the bytes of a file are known, and the file has `size` bytes, the bytes have this property
 abbrev pub IfWhole : Option (List ℕ) → ℕ → (List ℕ → Type 0) → Type 0
 IfWhole known size P = IfSome known (λ all. length all ≡ size → P all)
@@ -42,6 +37,19 @@ IfWhole known size P = IfSome known (λ all. length all ≡ size → P all)
 -- the bytes are a file that is accepted, sorted or not
 abbrev pub IsAccepted : List ℕ → Type 0
 IsAccepted bytes = (held : VersionSet) × Holds bytes held
+
+-- the bytes of the run of this file are accepted, sorted or not
+abbrev pub IsAcceptedRun : List ℕ → SortedRun → Type 0
+IsAcceptedRun file run = IsAccepted (run_bytes run file)
+
+-- if the bytes of the run of this file are accepted, they are a sorted file
+abbrev pub IsSortedIfAccepted : List ℕ → SortedRun → Type 0
+IsSortedIfAccepted file run = IsAcceptedRun file run → IsSortedRun file run
+
+-- the last of the runs of this file is a sorted file, if it is accepted
+abbrev pub LastIsSorted : List ℕ → List SortedRun → Type 0
+LastIsSorted file runs =
+    (fronts : List SortedRun) × (last : SortedRun) × (runs ≡ fronts ++ last ∷ []) × IsSortedIfAccepted file last
 
 -- the first version whose key is below the key of the version before it begins at this offset of the bytes
 abbrev pub IsFirstUnsorted : List ℕ → ℕ → Type 0
@@ -66,3 +74,20 @@ abbrev pub IsOrderOf : Type 0 → List ℕ → SortedRun → Result (Option ℕ)
 IsOrderOf Fails file run (Ok None) = IsSortedRun file run
 IsOrderOf Fails file run (Ok (Some offset)) = IsFirstUnsortedIn file run offset
 IsOrderOf Fails file run (Err fault) = IsRefusalOf Fails (run_bytes run file) fault
+
+-- has the run, with this first byte, no bytes but those of the file, and are they OPL?
+abbrev pub is_lines : SortedRun → Option ℕ → Bool
+is_lines run first = not (run.lacks_header || (run.lacks_end || is_reset first))
+
+-- The order of the run breaks at this offset: there is its first version that is out of order; or the lines before the
+-- offset are a sorted file, if they are accepted.
+abbrev pub BreaksAt : List ℕ → SortedRun → ℕ → Type 0
+BreaksAt file run offset =
+    IsFirstUnsortedIn file run offset ⊎ IsSortedIfAccepted file (front_run false run offset)
+
+-- The result of a search for the break of a run's order: none if the run is a sorted file as far as it is accepted, or
+-- the offset of the break, or a refusal of the run.
+abbrev pub IsBreakOf : Type 0 → List ℕ → SortedRun → Result (Option ℕ) Fault → Type 0
+IsBreakOf Fails file run (Ok None) = IsSortedIfAccepted file run
+IsBreakOf Fails file run (Ok (Some offset)) = BreaksAt file run offset
+IsBreakOf Fails file run (Err fault) = IsRefusalOf Fails (run_bytes run file) fault

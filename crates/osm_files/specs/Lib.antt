@@ -11,16 +11,19 @@ pub mod Stream
 pub mod Source
 pub mod Groups
 pub mod Opl
-pub mod Lines
 pub mod O5
 pub mod Units
 pub mod Held
 pub mod SortedRun
 pub mod ReadAt
+pub mod Recorded
 pub mod Extent
 pub mod ExtentGives
 pub mod FileInput
 pub mod FileRuns
+pub mod LineKey
+pub mod KeyOrder
+pub mod Lines
 pub mod Verdict
 pub mod Laws
 pub mod Reading
@@ -30,5 +33,6 @@ pub mod Sink
 pub mod InsideSink
 pub mod SpellLaws
 pub mod SourceLaws
+pub mod FirstFault
 pub mod Load
 pub mod LoadLaws

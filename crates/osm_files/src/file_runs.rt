@@ -6,8 +6,9 @@ ghost use Rattle.std.specs.List.{All};
 ghost use Rattle.osm_files.specs.declared.reason.Reason.TheVariants.{Unsorted, ReadFault};
 ghost use Rattle.osm_files.specs.Fault.{IsOfFile};
 ghost use Rattle.osm_files.specs.FileRuns.{EndsWhole, StopsSource, GivesSortedFile, IfWhole, LastIsSorted};
-ghost use Rattle.osm_files.specs.FileRuns.{IsSortedRun, IsAccepted, IsFirstUnsorted, IsFirstUnsortedIn};
-ghost use Rattle.osm_files.specs.FileRuns.{IsReadFailure, IsRefusalOf, IsOrderOf};
+ghost use Rattle.osm_files.specs.FileRuns.{IsSortedRun, IsAccepted, IsAcceptedRun, IsSortedIfAccepted};
+ghost use Rattle.osm_files.specs.FileRuns.{IsFirstUnsorted, BreaksAt, is_lines, IsReadFailure, IsRefusalOf};
+ghost use Rattle.osm_files.specs.FileRuns.{IsOrderOf, IsBreakOf};
 ghost use Rattle.osm_files.specs.Input.{GivesOne};
 ghost use Rattle.osm_files.specs.Load.{StopsOpening};
 ghost use Rattle.osm_files.specs.SortedRun as spec;
@@ -15,11 +16,13 @@ ghost use Rattle.osm_files.specs.SortedRun as spec;
 use crate::extent::FramedExtent;
 use crate::fault::Fault;
 use crate::input::{Broken, Input};
+use crate::key_order::first_falling;
 use crate::read_at::ReadAt;
 use crate::reason::Reason;
 use crate::sorted_run::{BytesAtSplit, SortedRun};
 use crate::source::{FileSource, Source};
 use crate::split_file::SplitFile;
+use crate::unit::SEGMENT_RESET;
 use std::alloc::Global;
 
 /// Finds the sorted runs of `file`, which has `size` bytes. `input` is the file's number. `first` is the offset of the
@@ -28,11 +31,14 @@ use std::alloc::Global;
 /// The result is `None` if there are more than `most` runs, or if the file can't be split where its order breaks. An o5
 /// file can only be split at a reset.
 ///
-/// The file is split before each version that is out of order. So each byte of it is read once, and each byte of an o5
-/// file twice. If `first` is known, the bytes of OPL before it aren't read.
+/// The file is split before each version that is out of order. Only the keys of OPL lines decide, so lines of the usual
+/// form aren't read further than their version numbers, and a line that can't be read further on isn't refused here. So
+/// OPL is read once, but a line that a window cuts is read again; an o5 file is read twice. If `first` is known, the
+/// bytes of OPL before it aren't read.
 ///
-/// Each run is a sorted file, if the file has the bytes that its reads return, it has `size` bytes, and `first` is
-/// right. The last run is read to its end, so it is a sorted file whether `first` is right or not.
+/// Each run is a sorted file if it is accepted in any order, if the file has the bytes that its reads return, it has
+/// `size` bytes, and `first` is right. The last run is read to its end, so this is true of it whether `first` is right
+/// or not. The runs of an accepted file are accepted.
 ///
 /// # Errors
 ///
@@ -51,7 +57,9 @@ pub fn find_runs<F: ReadAt>(
     ensures last { IfOk result (λ found. IfSome found (λ runs.
         IfWhole (F.bytes file.now) size (λ all. LastIsSorted all runs.items))) }
     ensures sorted { IfOk result (λ found. IfSome found (λ runs. IfWhole (F.bytes file.now) size (λ all.
-        IfSome first (IsFirstUnsorted all) → All (IsSortedRun all) runs.items))) }
+        IfSome first (IsFirstUnsorted all) → All (IsSortedIfAccepted all) runs.items))) }
+    ensures accepted { IfOk result (λ found. IfSome found (λ runs. IfWhole (F.bytes file.now) size (λ all.
+        IsAccepted all → All (IsAcceptedRun all) runs.items))) }
     ensures few { IfOk result (λ found. IfSome found (λ runs. length runs.items ≤ most)) }
     ensures input { IfErr result (IsOfFile input) }
     ensures refused { IfErr result (λ fault.
@@ -86,10 +94,13 @@ fn split_before<F: ReadAt>(
     ensures one { OnOk result (length split.new.fronts ≤ length split.old.fronts + 1) }
     ensures fits { offset < 2 ^ 64 }
     ensures fronts { result ≡ Ok true → IfWhole (F.bytes file.now) size (λ all.
-        IsFirstUnsortedIn all split.old.rest offset → All (IsSortedRun all) split.old.fronts
-        → All (IsSortedRun all) split.new.fronts) }
+        BreaksAt all split.old.rest offset → All (IsSortedIfAccepted all) split.old.fronts
+        → All (IsSortedIfAccepted all) split.new.fronts) }
+    ensures accepted { result ≡ Ok true → IfWhole (F.bytes file.now) size (λ all.
+        IsAcceptedRun all split.old.rest → All (IsAcceptedRun all) split.old.fronts
+        → All (IsAcceptedRun all) split.new.fronts) }
     ensures rest { result ≡ Ok true → IfWhole (F.bytes file.now) size (λ all.
-        IsAccepted (spec.run_bytes split.old.rest all) → IsAccepted (spec.run_bytes split.new.rest all)) }
+        IsAcceptedRun all split.old.rest → IsAcceptedRun all split.new.rest) }
     ensures input { IfErr result (IsOfFile input) }
     ensures failure { IfErr result (λ fault.
         IfWhole (F.bytes file.now) size (λ all. IsReadFailure (F.fails file.now) fault)) }
@@ -169,12 +180,53 @@ fn first_unsorted<F: ReadAt>(
 ) -> Result<Option<u64>, Fault>
     ensures known { IfSome known (λ offset. result ≡ Ok (Some offset)) }
     ensures order { known ≡ None →
-        IfWhole (F.bytes file.now) size (λ all. IsOrderOf (F.fails file.now) all run result) }
+        IfWhole (F.bytes file.now) size (λ all. IsBreakOf (F.fails file.now) all run result) }
     ensures input { IfErr result (IsOfFile input) }
 {
     match known {
         Some(offset) => Ok(Some(offset)),
-        None => read_run(alloc, file, input, size, run),
+        None => find_break(alloc, file, input, size, run),
+    }
+}
+
+/// The offset in the file of the first version of a run whose key is below that of the version before it. Of lines only
+/// the keys are read.
+///
+/// # Errors
+///
+/// The fault of the run, at its offset in the file; or `Memory`.
+fn find_break<F: ReadAt>(
+    alloc: Global,
+    file: &F,
+    input: usize,
+    size: u64,
+    run: SortedRun,
+) -> Result<Option<u64>, Fault>
+    ensures order { IfWhole (F.bytes file.now) size (λ all. IsBreakOf (F.fails file.now) all run result) }
+    ensures input { IfErr result (IsOfFile input) }
+{
+    let first = match byte_at(file, run.start) {
+        Ok(first) => first,
+        Err(Broken) => return Err(Fault::at(input, run.start, Reason::ReadFault)),
+    };
+    if is_lines(run, first) {
+        let end = run.start.saturating_add(run.size).min(size);
+        first_falling(alloc, file, input, run.start, end)
+    } else {
+        read_run(alloc, file, input, size, run)
+    }
+}
+
+/// Whether a run, whose first byte in the file is `first`, has only lines, and no bytes but those of the file.
+fn is_lines(run: SortedRun, first: Option<u8>) -> bool
+    ensures { result ≡ is_lines run first }
+{
+    if run.lacks_header || run.lacks_end {
+        return false;
+    }
+    match first {
+        Some(byte) => byte != SEGMENT_RESET,
+        None => true,
     }
 }
 

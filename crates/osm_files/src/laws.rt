@@ -4,6 +4,7 @@ ghost use Rattle.osm_files.specs.Laws as law;
 ghost use Rattle.osm_files.specs.SpellLaws as spelling;
 ghost use Rattle.osm_files.specs.LoadLaws as loading;
 ghost use Rattle.osm_files.specs.SourceLaws as source;
+ghost use Rattle.osm_files.specs.FirstFault as fault;
 
 use crate::{Input, Output};
 
@@ -198,4 +199,10 @@ pub fn faulty_input_gives_the_groups_before()
 /// input that has them and the fault.
 pub fn refused_source_gives_the_groups_before<R: Input>(_reader: &R)
     ensures { source.RefusedSourceGivesTheGroupsBefore R.can_give }
+{}
+
+/// The source of a sorted file gives its whole set. The source of any other input gives the key groups before the last
+/// one that began before the first fault, and then that fault, in terms of the formats' grammars.
+pub fn sources_give()
+    ensures { fault.SourcesGive }
 {}

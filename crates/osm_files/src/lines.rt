@@ -1,5 +1,6 @@
 //! The lines of an OPL file from an offset on.
-ghost use Rattle.std.specs.Prelude.{◌≡◌, ◌<◌, ◌^◌, IfOk, IfErr};
+ghost use Rattle.std.specs.Prelude.{◌≡◌, ◌<◌, ◌≤◌, ◌^◌, IfOk, IfErr};
+ghost use Rattle.osm_files.specs.declared.reason.Reason.TheVariants.{TooLong};
 ghost use Rattle.osm_files.specs.Fault.{IsOfFile};
 ghost use Rattle.osm_files.specs.Lines.{IsLineStart, IsDeviceFault, IsFirstFrom};
 
@@ -21,11 +22,12 @@ const LINE_CHUNK: usize = 1024;
 ///
 /// # Errors
 ///
-/// `ReadFault` if the file can't be read. `TooLong` if the result would be 2^62 or more. `input` is the file's number.
+/// `ReadFault` if the file can't be read. `TooLong` if the result would be 2^62 or more: the file has 2^62 bytes or
+/// more, or `offset` is that much. `input` is the file's number.
 pub fn line_start<F: ReadAt>(file: &F, input: usize, offset: u64) -> Result<u64, Fault>
     ensures start { IfOk result (IsLineStart (F.bytes file.now) offset) }
     ensures bound { IfOk result (λ start. start < 2 ^ 62) }
-    ensures refused { IfErr result (λ fault. IsDeviceFault fault) }
+    ensures refused { IfErr result (IsDeviceFault (F.fails file.now) (F.bytes file.now) offset) }
     ensures number { IfErr result (IsOfFile input) }
 {
     if offset == 0 {
@@ -54,7 +56,7 @@ pub fn line_start<F: ReadAt>(file: &F, input: usize, offset: u64) -> Result<u64,
 fn start_below_limit(input: usize, start: u64) -> Result<u64, Fault>
     ensures same { IfOk result (λ same. same ≡ start) }
     ensures bound { IfOk result (λ same. same < 2 ^ 62) }
-    ensures refused { IfErr result (λ fault. IsDeviceFault fault) }
+    ensures refused { IfErr result (λ fault. (fault.reason ≡ TooLong) × (2 ^ 62 ≤ start)) }
     ensures number { IfErr result (IsOfFile input) }
 {
     if start < LENGTH_LIMIT {
@@ -76,7 +78,7 @@ pub fn first_version<F: ReadAt>(
     input: usize,
     offset: u64,
 ) -> Result<Option<Version>, Fault>
-    ensures first { IsFirstFrom (F.bytes file.now) offset result }
+    ensures first { IsFirstFrom (F.fails file.now) (F.bytes file.now) offset result }
     ensures number { IfErr result (IsOfFile input) }
 {
     let start = line_start(file, input, offset)?;

@@ -1,4 +1,4 @@
-//! Commands: their arguments are parsed, the request is run, and its result is reported.
+//! Commands: their arguments are parsed, the command is run, and its result is reported.
 mod command;
 mod escape;
 mod file_check;
@@ -6,27 +6,29 @@ mod file_run;
 mod files;
 mod hint;
 mod input;
-mod list;
 mod part;
 mod plan_run;
 mod progress;
 mod refusal;
 mod request;
 mod shard;
-mod summary;
 mod target;
 
-use crate::cli::request::Request;
+use clap::{ArgMatches, Error};
+use command::command;
 use escape::Escaped;
-use hint::Hint;
-use part::FileId;
-pub(crate) use part::PartFile;
+use file_check::check_files;
+use file_run::run_files;
+use plan_run::run_plan;
 pub(crate) use refusal::Refusal;
+use request::{Request, read_list};
 use std::alloc::Global;
 use std::convert::AsStr;
 use std::io::{IsTerminal, Read, Write};
-use std::rt::Files;
-use std::time::Clock;
+use target::STANDARD;
+
+/// The arguments of a run without arguments: standard input is merged to standard output.
+const NO_ARGS: [&str; 4] = ["merge", "--output", STANDARD, STANDARD];
 
 /// Runs one command and returns the exit status.
 ///
@@ -37,111 +39,108 @@ use std::time::Clock;
 ///
 /// The status is 0 for success and help. It is 1 if a file, memory or `out` fails. It is 2 for a usage error: a mistake
 /// in the arguments, in a list of files or in a plan.
-pub fn run_words<R, S, I, O, E>(rt: &R, words: &[S], input: I, mut out: O, mut err: E) -> u8
+pub fn run_words<S, I, O, E>(rt: &HostRuntime, words: &[S], input: I, mut out: O, mut err: E) -> u8
 where
-    R: Files + Clock + AllocGlobal,
-    R::File: PartFile,
     S: AsStr,
     I: Read + Drop,
     O: Write + IsTerminal + Drop,
     E: Write + IsTerminal + Drop,
 {
-    let mut hints = false;
-    match Request::parse(rt.alloc(), words, &mut hints) {
-        Ok(request) => run_request(rt, request, input, &mut out, &mut err, hints),
-        Err(mistake) => report_mistake(rt, words, &mistake, &mut err, hints),
+    let parsed = if words.is_empty() {
+        parse(rt.alloc(), NO_ARGS.as_slice())
+    } else {
+        parse(rt.alloc(), words)
+    };
+    match parsed {
+        Ok(args) => match args.subcommand() {
+            Some((name, args)) => run_command(rt, name, args, input, &mut out, &mut err),
+            None => Refusal::NoCommand.report(&mut err),
+        },
+        Err(help) if !help.use_stderr() => match print_help(rt.alloc(), &help, &mut out) {
+            Ok(()) => 0,
+            Err(refusal) => hint::report(rt, &refusal, &mut err, false),
+        },
+        Err(mistake) => {
+            let is_shown = err.is_terminal();
+            let shown = if is_shown {
+                escaped_mistake(rt.alloc(), words)
+            } else {
+                None
+            };
+            let mistake = Refusal::of_args(shown.unwrap_or(mistake));
+            hint::report(rt, &mistake, &mut err, false)
+        }
     }
 }
 
-/// Reports a mistake in the arguments `args`. On a terminal the text of `clap` shows their control characters as
-/// escapes.
-fn report_mistake<R: Files + AllocGlobal, S: AsStr, E: Write + IsTerminal>(
-    rt: &R,
-    args: &[S],
-    mistake: &Refusal<'_>,
-    err: &mut E,
-    hints: bool,
-) -> u8 {
-    if err.is_terminal()
-        && let Refusal::Words(_) = mistake
-        && let Ok(shown) = escaped(rt.alloc(), args)
-        && let Err(mistake) = Request::parse(rt.alloc(), shown.as_slice(), &mut false)
-    {
-        return hint::report(rt, &mistake, err, hints);
-    }
-    hint::report(rt, mistake, err, hints)
+/// Parses arguments. The request for help or for the version is an error, too.
+fn parse<'a, S: AsStr>(alloc: Global, args: &'a [S]) -> Result<ArgMatches<'a>, Error> {
+    command(alloc)?.try_get_matches_from(args)
 }
 
-/// The arguments with escapes for control characters.
-fn escaped<S: AsStr>(alloc: Global, args: &[S]) -> Result<Vec<String>, Refusal<'static>> {
+/// The mistake in the arguments `args`, in which control characters are escaped.
+fn escaped_mistake<S: AsStr>(alloc: Global, args: &[S]) -> Option<Error> {
     let mut shown = Vec::new(alloc);
     for arg in args {
-        let text = arg.as_str();
-        shown.push(format!(in alloc; "{}", Escaped { text })?)?;
+        let text = format!(in alloc; "{}", Escaped(arg.as_str())).ok()?;
+        shown.push(text).ok()?;
     }
-    Ok(shown)
+    parse(alloc, shown.as_slice()).err()
+}
+
+/// Runs the command `name` with the arguments `args`, reports its outcome and returns the exit status.
+fn run_command<I: Read + Drop, O: Write + IsTerminal, E: Write + IsTerminal>(
+    rt: &HostRuntime,
+    name: &str,
+    args: &ArgMatches<'_>,
+    input: I,
+    out: &mut O,
+    err: &mut E,
+) -> u8 {
+    let hints = args.get_flag("hints");
+    if name == "plan" {
+        return run_plan(rt, args, out, err);
+    }
+    match Request::of_matches(rt.alloc(), name, args) {
+        Ok(request) => run_request(rt, request, input, out, err, hints),
+        Err(refusal) => hint::report(rt, &refusal, err, hints),
+    }
 }
 
 /// Reads the list of files that the request names, if it names one, runs the request, and reports its outcome.
-fn run_request<R, I, O, E>(
-    rt: &R,
+fn run_request<I: Read + Drop, O: Write + IsTerminal, E: Write + IsTerminal>(
+    rt: &HostRuntime,
     request: Request<'_>,
     input: I,
     out: &mut O,
     err: &mut E,
     hints: bool,
-) -> u8
-where
-    R: Files + Clock + AllocGlobal,
-    R::File: PartFile,
-    I: Read + Drop,
-    O: Write + IsTerminal,
-    E: Write + IsTerminal,
-{
+) -> u8 {
     let mut input = Some(input);
-    let (text, list) = match list::read_list(rt, &request, &mut input) {
+    let (text, list) = match read_list(rt, &request, &mut input) {
         Ok(list) => list,
         Err(refusal) => return hint::report(rt, &refusal, err, hints),
     };
-    let outcome = match request.with_list(rt.alloc(), text.as_str()) {
-        Ok(request) => run(rt, &request, list, input, out, err),
-        Err(refusal) => Err(refusal),
+    let request = match request.with_list(rt.alloc(), text.as_str(), list) {
+        Ok(request) => request,
+        Err(refusal) => return hint::report(rt, &refusal, err, hints),
     };
-    match outcome {
-        Ok(advice) => {
-            hint::advise(advice, err, hints);
+    let Some(run) = &request.run else {
+        return check_files(rt, &request, input, out, err, hints);
+    };
+    match run_files(rt, run, &request.files, input, out, err) {
+        Ok(()) => {
+            let hint = hint::after_output(rt.alloc(), run.output, run.run.format);
+            hint::advise(hint, err, hints);
             0
         }
         Err(refusal) => hint::report(rt, &refusal, err, hints),
     }
 }
 
-/// Runs a request. `list` is the identity of the list of files that it names.
-fn run<'a, R, I, O, E>(
-    rt: &R,
-    request: &Request<'a>,
-    list: Option<FileId>,
-    input: Option<I>,
-    out: &mut O,
-    err: &mut E,
-) -> Result<Option<Hint<'a>>, Refusal<'a>>
-where
-    R: Files + Clock + AllocGlobal,
-    R::File: PartFile,
-    I: Read + Drop,
-    O: Write + IsTerminal,
-    E: Write + IsTerminal,
-{
-    match request {
-        Request::Files(run) => {
-            file_run::run_files(rt, run, list, input, out, err)?;
-            return Ok(Hint::of_output(run.output, run.run.format));
-        }
-        Request::Check(check) => file_check::check_files(rt, check, input, out, err)?,
-        Request::Plan(run) => return plan_run::run_plan(rt, run, out),
-        Request::Help(text) => print(out, &format!(in rt.alloc(); "{text}")?)?,
-    }
-    Ok(None)
+/// Prints help or the version.
+fn print_help<O: Write>(alloc: Global, help: &Error, out: &mut O) -> Result<(), Refusal<'static>> {
+    print(out, &format!(in alloc; "{help}")?)
 }
 
 /// Prints a text, which has its own line feeds, in one write.

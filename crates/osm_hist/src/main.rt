@@ -2,12 +2,13 @@
 #![tactic(auto)]
 
 use crate::cli::{Refusal, run_words};
+use std::alloc::AllocError;
 use std::env::FillError;
 use std::fs::File;
 use std::io::{IsTerminal, Write};
 use std::os::fd::AsRawFd;
 use std::process::ExitCode;
-use std::rt::{Env, Files};
+use std::rt::Env;
 use std::{env, io, str};
 
 pub mod cli;
@@ -32,10 +33,7 @@ fn main(rt: HostRuntime) -> ExitCode {
 /// Opens the folder `/` until it gets a descriptor that is none of a standard stream. If a standard stream is closed,
 /// this folder has its descriptor as long as the handles are kept, so that no file gets it. Each read and write of a
 /// folder fails.
-fn occupy_standard<R: Files>(rt: &R) -> io::Result<[Option<R::File>; 4]>
-where
-    R::File: AsRawFd,
-{
+fn occupy_standard(rt: &HostRuntime) -> io::Result<[Option<File>; 4]> {
     let mut handles = [None, None, None, None];
     for handle in &mut handles {
         let folder = File::open(rt, ROOT)?;
@@ -55,40 +53,32 @@ fn run_args(rt: &HostRuntime) -> u8 {
         Err(error) => return refuse_args(rt, &error).report(&mut rt.stderr()),
     };
     if args.is_empty() && rt.stdin().is_terminal() && rt.stderr().is_terminal() {
-        report_waiting(rt.stderr());
+        // If standard error fails, nothing can report it.
+        let _ = eprintln!(rt;
+            "osm_hist: waiting for OPL on standard input; osm_hist --help shows the commands"
+        );
     }
     run_words(rt, args.as_slice(), rt.stdin(), rt.stdout(), rt.stderr())
 }
 
-/// Reports that the program waits for standard input.
-fn report_waiting<E: Write + Drop>(mut err: E) {
-    // If standard error fails, nothing can report it.
-    let _ = writeln!(
-        err,
-        "osm_hist: waiting for OPL on standard input; osm_hist --help shows the commands"
-    );
-    let _ = err.flush();
-}
-
 /// The arguments after the program's name.
-fn read_args<R: Env + AllocGlobal>(rt: &R) -> io::Result<Vec<String>> {
+fn read_args(rt: &HostRuntime) -> io::Result<Vec<String>> {
     Ok(env::args(rt)?.skip(1).collect(rt.alloc())?)
 }
 
 /// The refusal if the arguments aren't available: one isn't UTF-8, or the program is out of memory.
-fn refuse_args<R: Env + AllocGlobal>(rt: &R, error: &io::Error) -> Refusal<'static> {
-    match error.kind() {
-        io::ErrorKind::OutOfMemory => Refusal::Memory,
-        _ => match faulty_argument(rt) {
-            Ok(argument) => Refusal::WordsNotUtf8(argument),
-            Err(_) => Refusal::Memory,
-        },
+fn refuse_args(rt: &HostRuntime, error: &io::Error) -> Refusal<'static> {
+    match faulty_argument(rt) {
+        Ok(argument) if error.kind() != io::ErrorKind::OutOfMemory => Refusal::WordsNotUtf8(
+            argument,
+        ),
+        _ => Refusal::Memory(AllocError),
     }
 }
 
 /// The first argument that isn't UTF-8, with escapes for bytes that aren't printable ASCII. If it is longer than the
 /// buffer, the result is a text that says so.
-fn faulty_argument<R: Env + AllocGlobal>(rt: &R) -> io::Result<String> {
+fn faulty_argument(rt: &HostRuntime) -> io::Result<String> {
     let mut text = String::new(rt.alloc());
     let mut buffer = [0u8; ARGUMENT];
     for number in 1..usize::MAX {

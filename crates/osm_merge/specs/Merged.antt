@@ -84,26 +84,31 @@ written_before selection format None versions = []
 written_before selection format (Some last) versions =
     open_file_bytes format (put_of selection (passing_versions selection (versions_up_to (Some last) versions)))
 
--- The fault is that of a source, and all versions that the merge puts up to that source's last version were written.
-pub record IsSourceFaultAs (selection : Selection) (all : List VersionsToCome) (format : Format) (change : Change)
-    (fault : Fault) : Type 0 where
+-- The fault is that of a source. The bytes `written` were appended, which depend on that source's last version and on
+-- the versions of the union.
+pub record IsSourceFaultBy (written : Option VersionData → List VersionData → List ℕ) (all : List VersionsToCome)
+    (change : Change) (fault : Fault) : Type 0 where
   pub place : ℕ
   pub within : place < length all
   pub refusal : (rest_at all place).refusal ≡ Some fault
-  pub appended :
-      let last = last_version (rest_at all place).list in
-      Appends change (written_before selection format last (to_list (union_given all)))
+  pub appended : Appends change (written (last_version (rest_at all place).list) (to_list (union_given all)))
 
--- Why a merge was refused. Either memory ran out, the output failed or the file of the selection has 2^62 bytes or
--- more, and a front of that file was written. Or a source is refused.
+-- Why a merge that is to write a set was refused. Either memory ran out, the output failed or the file of the set has
+-- 2^62 bytes or more, and a front of that file was written. Or a source is refused, and the bytes `written` were.
+abbrev pub IsRefusedBy : VersionSet → (Option VersionData → List VersionData → List ℕ) → List VersionsToCome → Format →
+    ℕ → Change → Fault → Type 0
+IsRefusedBy set written all format output change fault =
+    CutShort output change (spell format set) fault ⊎ IsSourceFaultBy written all change fault
+
+-- why a merge was refused that writes a selection
 abbrev pub IsRefusedAs : Selection → List VersionsToCome → Format → ℕ → Change → Fault → Type 0
-IsRefusedAs selection all format output change fault =
-    CutShort output change (spell format (selection_of selection (union_given all))) fault
-    ⊎ IsSourceFaultAs selection all format change fault
+IsRefusedAs selection all format =
+    IsRefusedBy (selection_of selection (union_given all)) (written_before selection format) all format
 
--- why a merge that selects all versions was refused
+-- why a merge was refused that selects all versions: those up to the refused source's last version were written
 abbrev pub RefusesSources : List VersionsToCome → Format → ℕ → Change → Fault → Type 0
-RefusesSources = IsRefusedAs All
+RefusesSources all format =
+    IsRefusedBy (union_given all) (λ last versions. written_so_far format (versions_up_to last versions)) all format
 
 -- the output still has the earlier bytes, and perhaps more bytes after them
 abbrev pub Grows : Change → Type 0

@@ -1,9 +1,10 @@
 -- Lines that are split at an offset, and the search for the offset at which a file is cut.
-use Rattle.std.proofs.Common.{◌≡◌, ◌⊎◌, inl, inr, ⊎_elim, ℕ, zero, suc, ◌+◌, ◌≤◌, ◌<◌, ◌^◌, Bool, true, false, not, cond, List, [], ◌∷◌}
+use Rattle.std.proofs.Common.{◌≡◌, ◌⊎◌, inl, inr, ⊎_elim, ℕ, zero, suc, ◌+◌, ◌-◌, ◌≤◌, ◌<◌, ◌^◌, Bool, true, false, not, cond, List, []}
+use Rattle.std.proofs.Common.{◌∷◌}
 use Rattle.std.proofs.Common.{◌==◌}
 use Rattle.std.proofs.Common.{◌++◌, length, take, drop, refl, sym, ap, ◌∙◌, subst, arith, Option, Some, None, IfSome, Err, append-nil}
 use Rattle.std.proofs.Common.{append_assoc, take-append-drop, get_or}
-use Rattle.std.proofs.lemmas.Bool.{false≢true}
+use Rattle.std.proofs.lemmas.Bool.{false≢true, cases_lt}
 use Rattle.std.specs.declared.cmp.Ordering.{Ordering}
 use Rattle.std.specs.declared.cmp.Ordering.TheVariants.{Less, Equal, Greater}
 use Rattle.std.specs.Ordering.{ordering_then, is_lt}
@@ -18,17 +19,20 @@ use Rattle.opl_line.specs.Spells.{Spells}
 use Rattle.opl_line.proofs.CutLaws.{cut_split}
 use Rattle.osm_files.specs.declared.fault.Fault.{Fault}
 use Rattle.osm_files.specs.ReadAt.{AreAt, AreLast}
-use Rattle.osm_files.specs.Lines.{after_line, lines_from, IsLineStart, IsFirstOf, IsFirstFrom, IsDeviceFault}
+use Rattle.osm_files.specs.FileRuns.{IsReadFailure}
+use Rattle.osm_files.specs.Lines.{after_line, lines_from, line_start_from, BeginsLine, IsLineStart, IsFirstOf, IsFirstFrom}
+use Rattle.osm_files.specs.Lines.{IsDeviceFault}
 use Rattle.osm_files.specs.Opl.{is_read, OplFile}
 use Rattle.osm_files.specs.Units.{InOpl, BeforeHeader, start_of}
 use Rattle.osm_files.proofs.FileLaws.{Rises, sorted_all}
 use Rattle.osm_files.proofs.FirstLaws.{one_opl}
 use Rattle.osm_files.proofs.JoinLaws.{Ended, SplitVersions, split_ended}
+use Rattle.osm_files.proofs.LineStarts.{start_lines, start_begins, starts_rise, next_drop}
 use Rattle.osm_files.proofs.StartLaws.{opl_starts}
 use Rattle.osm_merge.specs.declared.object.Object.{Object}
-use Rattle.osm_merge.specs.Slice.{object_of, reaches, is_under}
+use Rattle.osm_merge.specs.Slice.{object_of, object_order, reaches, is_under}
 use Rattle.osm_merge.proofs.SliceLaws.{not_below}
-use Rattle.osm_mirror.specs.CutOffset.{IsCutOf, IsCutRefusal, BeginsLinesOf, BeginsAs}
+use Rattle.osm_mirror.specs.CutOffset.{IsCutAt, IsCutOf, IsCutRefusal, IsSearchRefusal, BeginsLinesOf, BeginsAs, IsUnderBefore}
 use Rattle.osm_mirror.specs.CutOffset.{first_is_under, IsFirstUnder}
 
 -- ---- bytes that are split before the beginning of a line
@@ -99,13 +103,6 @@ split_versions bytes rest s versions file =
     (λ ended. split_ended bytes s.front rest versions s.whole ended file)) s.ends
 
 -- ---- one offset further
-next_drop : (offset : ℕ) (bytes : List ℕ) → ((drop offset bytes ≡ []) × (drop (suc offset) bytes ≡ []))
-    ⊎ ((b : ℕ) × (drop offset bytes ≡ b ∷ drop (suc offset) bytes))
-next_drop zero [] = inl (refl, refl)
-next_drop zero (b ∷ bytes) = inr (b, refl)
-next_drop (suc offset) [] = inl (refl, refl)
-next_drop (suc offset) (b ∷ bytes) = next_drop offset bytes
-
 -- the lines from the next offset on are the same, or the first one is left out
 next_lines : (offset : ℕ) (bytes : List ℕ) → (lines_from (suc offset) bytes ≡ lines_from offset bytes)
     ⊎ (lines_from (suc offset) bytes ≡ after_line (lines_from offset bytes))
@@ -333,6 +330,52 @@ module _ (bound : Object) where
     high_step offset first = let parts = parts_at offset in
         high_at offset parts.earlier parts.later parts.are parts.second (first parts.later parts.second)
 
+    -- ---- no line that begins before the cut has a first version that isn't below the bound
+    -- the first version of the lines from an offset on is below the bound
+    abbrev Under : ℕ → Type 0
+    Under offset = (later : List VersionData) → OplFile (lines_from offset bytes) later → first_is_under bound later ≡ true
+
+    first_of_two : (w : VersionData) (later : List VersionData) → Rises (Some w) later → first_is_under bound later ≡ true →
+        under w ≡ true
+    first_of_two w [] up h = absurd (false≢true h)
+    first_of_two w (v ∷ later) up h = under_on w v up.0 h
+
+    -- a line more at the front of some lines
+    line_more : (offset : ℕ) (later rest : List VersionData) (w : VersionData) → later ≡ w ∷ rest →
+        OplFile (lines_from offset bytes) later →
+        first_is_under bound rest ≡ true → first_is_under bound later ≡ true
+    line_more offset later rest w is lines h =
+        let parts = parts_at offset in
+        let same : parts.later ≡ w ∷ rest = one_opl (lines_from offset bytes) parts.later later parts.second lines ∙ is in
+        let up = rises_later None parts.earlier (w ∷ rest)
+        (subst (Rises None) (parts.are ∙ ap (λ t. parts.earlier ++ t) same) (sorted_all versions sorted)) in
+        ap (first_is_under bound) is ∙ first_of_two w rest up.1.1 h
+
+    under_before : (offset : ℕ) → Under (suc offset) → Under offset
+    under_before offset next later lines =
+        ⊎_elim (λ same. next later (subst (λ (b : List ℕ). OplFile b later) (sym same) lines))
+        (λ further. let rest = shorter (lines_from offset bytes) later lines in
+        let below = next rest.later (subst (λ (b : List ℕ). OplFile b rest.later) (sym further) rest.file) in
+        ⊎_elim (λ all. ap (first_is_under bound) all ∙ below)
+        (λ (w, one). line_more offset later rest.later w one lines below) rest.are) (next_lines offset bytes)
+
+    under_down : (more offset : ℕ) → Under (offset + more) → Under offset
+    under_down zero offset h = let e : offset + 0 ≡ offset = omega arith in subst Under e h
+    under_down (suc more) offset h =
+        let e : offset + suc more ≡ suc (offset + more) = omega arith in
+        under_down more offset (under_before (offset + more) (subst Under e h))
+
+    is_first : (low start : ℕ) → start ≡ line_start_from low bytes → (low ≡ 0) ⊎ Under (low - 1) → IsUnderBefore bytes bound start
+    is_first low start is last s before line later lines =
+        ⊎_elim
+        (λ near. ⊎_elim (λ none. absurd (omega (arith, near, none)))
+        (λ under_it.
+        let e : low - 1 ≡ s + (low - 1 - s) = omega (arith, near) in
+        under_down (low - 1 - s) s (subst Under e under_it) later
+        (subst (λ (b : List ℕ). OplFile b later) (ap (λ n. drop n bytes) (sym line) ∙ start_lines s bytes) lines)) last)
+        (λ far. absurd (let rise = starts_rise low s bytes far in omega (arith, rise, line, is, before)))
+        (cases_lt s low)
+
     cut_is : (offset start : ℕ) → Low bytes versions offset → High bytes versions offset → drop start bytes ≡ lines_from offset bytes →
         OplFile (take start bytes) (filter under versions) × OplFile (drop start bytes) (filter over versions)
     cut_is offset start low high begins =
@@ -358,25 +401,35 @@ module _ (bound : Object) where
   Between all low high = length all < 2 ^ 62 → (versions : List VersionData) → OplFile all versions → IsSorted key_cmp versions →
       Low all versions low × High all versions high
 
-  -- the cut is between `low` and `high`
+  -- The cut is between `low` and `high`. The first version from the offset before `low` on is below the bound.
+  pub record Halves (all : List ℕ) (low high : ℕ) : Type 0 where
+    pub within : high ≤ length all
+    pub between : Between all low high
+    pub last : (low ≡ 0) ⊎ IsFirstUnder (Some all) bound (low - 1) true
+
+  -- the same, if the file's bytes are known
   abbrev pub Halving : Option (List ℕ) → ℕ → ℕ → Type 0
-  Halving bytes low high = (low ≤ high) × IfSome bytes (λ all. Between all low high)
+  Halving bytes low high = (low ≤ high) × IfSome bytes (λ all. Halves all low high)
 
   -- At first the cut is between 0 and the size.
   pub halving_first : (bytes : Option (List ℕ)) (size : ℕ) → IfSome bytes (λ all. size ≡ length all) → Halving bytes 0 size
   halving_first None size is = (omega arith, tt)
   halving_first (Some all) size is = (
     omega arith,
-    λ short versions file sorted. (
-      low_first all versions file sorted,
-      record {
-        earlier = versions;
-        later = [];
-        are = sym (append-nil versions);
-        lines = subst (λ (b : List ℕ). OplFile b []) (sym (ap (λ n. lines_from n all) is ∙ at_end all)) tt;
-        above = tt;
-      },
-    ),
+    record {
+      within = omega (arith, is);
+      last = inl refl;
+      between = λ short versions file sorted. (
+        low_first all versions file sorted,
+        record {
+          earlier = versions;
+          later = [];
+          are = sym (append-nil versions);
+          lines = subst (λ (b : List ℕ). OplFile b []) (sym (ap (λ n. lines_from n all) is ∙ at_end all)) tt;
+          above = tt;
+        },
+      );
+    },
   )
 
   -- If the first version from `middle` on is below the bound, the cut is after `middle`.
@@ -385,23 +438,32 @@ module _ (bound : Object) where
   halving_low None low middle high next h near is first = (omega (arith, near, is), tt)
   halving_low (Some all) low middle high next h near is first = (
     omega (arith, near, is),
-    λ short versions file sorted.
-        let e : next ≡ suc middle = omega (arith, is) in (
-          rw e (low_step all versions file sorted middle (λ later lines. first short later lines)),
-          (h.1 short versions file sorted).1,
-        ),
+    record {
+      within = h.1.within;
+      last = let e : middle ≡ next - 1 = omega (arith, is) in
+          inr (subst (λ n. IsFirstUnder (Some all) bound n true) e first);
+      between = λ short versions file sorted.
+          let e : next ≡ suc middle = omega (arith, is) in (
+            rw e (low_step all versions file sorted middle (λ later lines. first short later lines)),
+            (h.1.between short versions file sorted).1,
+          );
+    },
   )
 
   -- If the first version from `middle` on is not below the bound, the cut is at `middle` at the latest.
-  pub halving_high : (bytes : Option (List ℕ)) (low middle high : ℕ) → Halving bytes low high → low ≤ middle →
+  pub halving_high : (bytes : Option (List ℕ)) (low middle high : ℕ) → Halving bytes low high → low ≤ middle → middle < high →
       IsFirstUnder bytes bound middle false → Halving bytes low middle
-  halving_high None low middle high h near first = (omega (arith, near), tt)
-  halving_high (Some all) low middle high h near first = (
+  halving_high None low middle high h near early first = (omega (arith, near), tt)
+  halving_high (Some all) low middle high h near early first = (
     omega (arith, near),
-    λ short versions file sorted. (
-      (h.1 short versions file sorted).0,
-      high_step all versions file sorted middle (λ later lines. first short later lines),
-    ),
+    record {
+      within = let long = h.1.within in omega (arith, long, early);
+      last = h.1.last;
+      between = λ short versions file sorted. (
+        (h.1.between short versions file sorted).0,
+        high_step all versions file sorted middle (λ later lines. first short later lines),
+      );
+    },
   )
 
   -- When `low` reaches `high`, the first line from there on is the cut.
@@ -409,15 +471,51 @@ module _ (bound : Object) where
       IsCutOf bytes bound start
   halved None low high start h end begins = tt
   halved (Some all) low high start h end begins = λ short versions file sorted.
-      let both = h.1 short versions file sorted in
+      let both = h.1.between short versions file sorted in
       let e : high ≡ low = omega (arith, h.0, end) in
-      cut_is all versions file sorted low start both.0 (rw e at both.1) begins
+      let cut = cut_is all versions file sorted low start both.0 (rw e at both.1) (ap (λ n. drop n all) begins ∙ start_lines low all) in (
+        cut.0,
+        cut.1,
+        is_first all versions file sorted low start begins
+            (⊎_elim (λ none. inl none) (λ under_it. inr (λ later lines. sym (under_it short later lines))) h.1.last),
+      )
 
--- lines of OPL begin at an offset that is the start of a line and has no o5 file
-pub begins_of : (bytes : Option (List ℕ)) (from start : ℕ) → IsLineStart bytes from start → BeginsAs bytes start false →
-    BeginsLinesOf bytes start
-begins_of None from start begins opl = tt
-begins_of (Some all) from start begins opl = record { from = from; lines = begins; start = opl }
+  -- a line begins at the cut, and the bytes from there on don't begin as an o5 file does
+  pub begins_of : (bytes : Option (List ℕ)) (low high start : ℕ) → Halving bytes low high → high ≤ low → IsLineStart bytes low start →
+      BeginsAs bytes start false → BeginsLinesOf bytes start
+  begins_of None low high start h end begins opl = tt
+  begins_of (Some all) low high start h end begins opl = record {
+    line =
+        let long = h.1.within in
+        subst (BeginsLine all) (sym begins) (start_begins low all (omega (arith, h.0, end, long)));
+    start = opl;
+  }
+
+  -- If lines begin as an o5 file does, the file is no OPL file.
+  pub o5_refusal : (Fails : Type 0) (bytes : Option (List ℕ)) (from start : ℕ) (fault : Fault) → IsLineStart bytes from start →
+      BeginsAs bytes start true → IsCutRefusal Fails bytes fault
+  o5_refusal Fails None from start fault lines o5 = tt
+  o5_refusal Fails (Some all) from start fault lines o5 = λ short. inr (λ versions file.
+      let parts = split_versions all (lines_from from all) (split_lines from all) versions file in
+      let opl : start_of (drop start all) ≡ InOpl =
+      ap start_of (ap (λ n. drop n all) lines ∙ start_lines from all) ∙ opl_starts (lines_from from all) parts.later parts.second in
+      let e : BeforeHeader ≡ InOpl = sym o5 ∙ opl in cc)
+
+  -- A search within the file that is refused refuses the cut.
+  pub search_refusal : (Fails : Type 0) (bytes : Option (List ℕ)) (low high offset : ℕ) (fault : Fault) → Halving bytes low high →
+      offset ≤ high → IsSearchRefusal Fails bytes offset fault → IsCutRefusal Fails bytes fault
+  search_refusal Fails None low high offset fault h near refused = tt
+  search_refusal Fails (Some all) low high offset fault h near refused = λ short.
+      ⊎_elim (λ device. ⊎_elim (λ failure. inl failure)
+      (λ (reason, long). absurd (let within = h.1.within in omega (arith, long, short, within, near))) device)
+      (λ none. inr none) (refused short)
+
+  -- The search for a line within the file that is refused refuses the cut.
+  pub line_refusal : (Fails : Type 0) (bytes : Option (List ℕ)) (low high offset : ℕ) (fault : Fault) → Halving bytes low high →
+      offset ≤ high → IsDeviceFault Fails bytes offset fault → IsCutRefusal Fails bytes fault
+  line_refusal Fails None low high offset fault h near device = tt
+  line_refusal Fails (Some all) low high offset fault h near device =
+      search_refusal Fails (Some all) low high offset fault h near (λ short. inl device)
 
 -- the first of some versions determines whether they begin below the bound
 pub first_under : (bound : Object) (v : VersionData) (versions : List VersionData) → IsFirstOf (Some v) versions →
@@ -430,27 +528,20 @@ none_under bound [] is = refl
 none_under bound (w ∷ versions) is = cc
 
 -- ---- refusals
--- a fault of the device, of memory or of the length refuses a cut
-pub device_refusal : (bytes : Option (List ℕ)) (fault : Fault) → IsDeviceFault fault → IsCutRefusal bytes fault
-device_refusal None fault h = tt
-device_refusal (Some all) fault h = λ short. inl h
+-- a failure to read refuses a cut
+pub failure_refuses : (Fails : Type 0) (bytes : Option (List ℕ)) (fault : Fault) → IsReadFailure Fails fault →
+    IsCutRefusal Fails bytes fault
+failure_refuses Fails None fault h = tt
+failure_refuses Fails (Some all) fault h = λ short. inl h
 
 -- if the lines from an offset on spell no versions, the file is no OPL file
-pub lines_refusal : (bytes : Option (List ℕ)) (offset : ℕ) (fault : Fault) → IsFirstFrom bytes offset (Err fault) → IsCutRefusal bytes fault
-lines_refusal None offset fault h = tt
-lines_refusal (Some all) offset fault h = λ short. ⊎_elim inl
+pub lines_refusal : (Fails : Type 0) (bytes : Option (List ℕ)) (offset : ℕ) (fault : Fault) → IsFirstFrom Fails bytes offset (Err fault) →
+    IsSearchRefusal Fails bytes offset fault
+lines_refusal Fails None offset fault h = tt
+lines_refusal Fails (Some all) offset fault h = λ short. ⊎_elim inl
     (λ none. inr (λ versions file.
     let parts = split_versions all (lines_from offset all) (split_lines offset all) versions file in
     none parts.later parts.second)) (h short)
-
--- if lines begin as an o5 file does, the file is no OPL file
-pub o5_refusal : (bytes : Option (List ℕ)) (from start : ℕ) (fault : Fault) → IsLineStart bytes from start → BeginsAs bytes start true →
-    IsCutRefusal bytes fault
-o5_refusal None from start fault lines o5 = tt
-o5_refusal (Some all) from start fault lines o5 = λ short. inr (λ versions file.
-    let parts = split_versions all (lines_from from all) (split_lines from all) versions file in
-    let opl : start_of (drop start all) ≡ InOpl = ap start_of lines ∙ opl_starts (lines_from from all) parts.later parts.second in
-    let e : BeforeHeader ≡ InOpl = sym o5 ∙ opl in cc)
 
 -- ---- the first byte
 -- a file that ends at an offset doesn't begin there as an o5 file does
@@ -466,3 +557,24 @@ begins_as (Some all) offset zero buffer few size at some = absurd (omega (arith,
 begins_as (Some all) offset (suc (suc n)) buffer few size at some = absurd (omega (arith, few))
 begins_as (Some all) offset (suc zero) [] few size at some = absurd (omega (arith, size))
 begins_as (Some all) offset (suc zero) (b ∷ buffer) few size (rest, at) some = ap start_of at
+
+-- ---- the cuts at two bounds
+module _ (low_bound bound : Object) (rises : is_lt (object_order bound low_bound) ≡ false) where
+  none_under_first : (versions : List VersionData) → first_is_under low_bound (filter (reaches (Some bound)) versions) ≡ false
+  none_under_first [] = refl
+  none_under_first (v ∷ versions) =
+      elim (reaches (Some bound) v) as (λ t. reaches (Some bound) v ≡ t →
+      first_is_under low_bound (cond t (v ∷ filter (reaches (Some bound)) versions) (filter (reaches (Some bound)) versions)) ≡ false) [
+        | true ↦ λ e. not_below (object_of v) bound low_bound (is_not _ e) rises
+        | false ↦ λ e. none_under_first versions
+      ] refl
+
+  -- A sorted file isn't cut at the greater bound before the lower one.
+  pub cuts_rise : (all : List ℕ) (start end : ℕ) (versions : List VersionData) → OplFile all versions → IsSorted key_cmp versions →
+      IsCutAt all low_bound start → IsCutAt all bound end → BeginsLine all end → start ≤ end
+  cuts_rise all start end versions file sorted low high line =
+      ⊎_elim
+      (λ before. absurd (false≢true
+      (sym (none_under_first versions)
+      ∙ (low versions file sorted).2 end before line (filter (reaches (Some bound)) versions) (high versions file sorted).1)))
+      (λ fine. fine) (cases_lt end start)

@@ -99,7 +99,8 @@ fault_has number (Some w) fault e =
     let same : fault_of number w ≡ fault = (let f : Some (fault_of number w) ≡ Some fault = e in cc) in ap (λ f. f.input) (sym same)
 
 -- the fault of an input has its number
-has_number : (order : Order) (number : ℕ) (c : InputRest) (fault : Fault) → (source_of number (read_as_of order, c)).refusal ≡ Some fault
+pub has_number : (order : Order) (number : ℕ) (c : InputRest) (fault : Fault)
+    → (source_of number (read_as_of order, c)).refusal ≡ Some fault
     → fault.input ≡ number
 has_number Sorted number c fault e = fault_has number (input_verdict c) fault (sym (source_refusal number c) ∙ e)
 has_number Any number c fault e = fault_has number (units_from None 0 c).refusal fault (any_refused number c fault e)
@@ -113,7 +114,7 @@ pub record IsAt (number place : ℕ) (reason : Reason) (fault : Fault) : Type 0 
   pub other : reason ≡ Memory → ⊥
 
 -- the fault for a reason at an offset, unless it is out of memory
-at_is : (number place : ℕ) (reason : Reason) → (fault_at number place reason ≡ memory_fault)
+pub at_is : (number place : ℕ) (reason : Reason) → (fault_at number place reason ≡ memory_fault)
     ⊎ IsAt number place reason (fault_at number place reason)
 at_is number place Memory = inl refl
 at_is number place (Opl inner) = inr (record { input_is = refl; place_is = refl; reason_is = refl; other = λ e. cc })
@@ -137,7 +138,7 @@ module _ (Fails : Type 0) (all : List ℕ) (fault r : Fault) (same : r.reason �
   failed (inr (fails, read)) = (fails, same ∙ read)
 
   -- a file that must be sorted
-  sorted_fault : (m : ℕ) → r.place ≡ fault.place → Refuses Fails m all fault
+  pub sorted_fault : (m : ℕ) → r.place ≡ fault.place → Refuses Fails m all fault
       → (Fails × (r.reason ≡ ReadFault)) ⊎ IsFaultOfBytes Sorted all r
   sorted_fault m there (inl failure) = inl (failed failure)
   sorted_fault m there (inr (v, e, is)) =

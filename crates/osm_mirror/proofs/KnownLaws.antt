@@ -70,7 +70,8 @@ writes_set Gives choice Compared all format change counts run =
 
 pub merges_begun : {O : Type 0} (output : Ghosts O) → RefusedMergesHaveBegun output
 merges_begun output all format before after fault refused =
-    begun_refused selection.All (merge.sources 0 all) format (length all) (change_of output before after) fault refused.why
+    let why = refused.why in
+    (why.0, why.1, begun_refused selection.All why.0 format (length all) (change_of output before after) fault why.2)
 
 -- an unchanged output has a front of the file, which is empty
 none_begun : {O : Type 0} (output : Ghosts O) (set : VersionSet) (format : Format) (before after : O) → after ≡ before

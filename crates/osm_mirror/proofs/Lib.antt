@@ -25,4 +25,5 @@ mod ProbeLaws
 mod ShardPartLaws
 mod FilePartLaws
 mod ShardSpanLaws
+mod SpanRunLaws
 mod ShardRunLaws

@@ -1,8 +1,10 @@
 -- The probes of files: what they find, and at which offsets.
 use Rattle.std.proofs.Common.{◌≡◌, ℕ, zero, suc, ◌+◌, ◌-◌, ◌*◌, ◌/◌, ◌≤◌, ◌<◌, ◌==◌, ◌^◌, min, Bool, true, false, not, cond, List, [], ◌∷◌}
-use Rattle.std.proofs.Common.{◌++◌, length, refl, sym, ap, ◌∙◌, subst, arith, Option, Some, None, Ok, IfSome}
+use Rattle.std.proofs.Common.{◌++◌, length, refl, sym, ap, ◌∙◌, subst, arith, Option, Some, None, Ok, IfSome, inl, inr, ⊎_elim}
+use Rattle.std.proofs.Common.{take, drop, take-append-drop, get_or}
 use Rattle.std.proofs.Common.{append_assoc, append-nil}
 use Rattle.std.specs.Prelude.{option_map, sum_by, unwrap_or}
+use Rattle.std.proofs.lemmas.Bool.{cases_lt}
 use Rattle.std.proofs.lemmas.Bool.Decides.{nat_tests}
 use Rattle.std.proofs.lemmas.Grind.{flat_map-append}
 use Rattle.std.proofs.lemmas.List.Sums.{sum_by_push, sum_by-append, sum_by-cons}
@@ -10,6 +12,7 @@ use Rattle.std.proofs.lemmas.Nat.{mul-le, div-add-mod', row_fits}
 use Rattle.osm_model.specs.Data.{VersionData}
 use Rattle.osm_model.specs.Pairwise.{Pairwise}
 use Rattle.osm_model.specs.VersionSet.{VersionSet}
+use Rattle.osm_files.specs.declared.fault.Fault.{Fault}
 use Rattle.osm_files.specs.Held.{HoldsSorted, IsFileOf}
 use Rattle.osm_files.specs.Lines.{lines_from, IsFirstOf, IsFirstFrom}
 use Rattle.osm_files.specs.O5.{reset_byte}
@@ -22,11 +25,12 @@ use Rattle.osm_mirror.specs.declared.bounds.Found.{Found}
 use Rattle.osm_mirror.specs.Bounds.{is_opl, opl_size, object_of_first, first_object, found_once, found_at, found_by, probe_count}
 use Rattle.osm_mirror.specs.Bounds.{found_in, total_weight}
 use Rattle.osm_mirror.specs.Bounds.{found_in_all}
-use Rattle.osm_mirror.specs.CutOffset.{start_if}
-use Rattle.osm_mirror.specs.Probes.{IsTotal, FindsIn, FindsInAll}
+use Rattle.osm_mirror.specs.CutOffset.{start_if, IsSearchRefusal}
+use Rattle.osm_mirror.specs.Probes.{HaveBytes, IsTotal, FindsIn, FindsInAll}
 use Rattle.osm_mirror.specs.ShardPart.{size_if_opl, IsOplSize}
+use Rattle.osm_mirror.specs.ShardRefusal.{IsFileRefusal}
 use Rattle.osm_mirror.proofs.CutLaws.{split_lines, split_versions}
-use Rattle.osm_mirror.proofs.FilesRunLaws.{cut, known_given}
+use Rattle.osm_mirror.proofs.FilesRunLaws.{cut, known_given, take_more}
 
 -- ---- the first byte of a file
 starts_if : (t : Bool) → start_if (not (not t)) ≡ start_if t
@@ -60,6 +64,30 @@ pub opl_file : (bytes : List ℕ) (versions : List VersionData) → is_opl bytes
     OplFile bytes versions
 opl_file bytes versions e file = subst (λ s. IsFileOf s bytes versions) (opl_starts bytes e) file
 
+-- the size of an OPL file is known
+pub opl_sized : (known : Option (List ℕ)) (size : ℕ) → IsOplSize known (Some size) →
+    IfSome known (λ all. (is_opl all ≡ true) × (size ≡ length all))
+opl_sized None size h = tt
+opl_sized (Some all) size h =
+    elim (is_opl all) as (λ t. is_opl all ≡ t → Some size ≡ cond t (Some (length all)) None → (is_opl all ≡ true) × (size ≡ length all)) [
+      | true ↦ λ e k. (e, (let same : size ≡ length all = cc in same))
+      | false ↦ λ e k. absurd (let no : Some size ≡ None = k in cc)
+    ] refl h
+
+-- a search at an offset of an OPL file that is refused refuses the file
+pub probe_refuses : (Fails : Type 0) (known : Option (List ℕ)) (size offset : ℕ) (fault : Fault) →
+    IfSome known (λ all. (is_opl all ≡ true) × (size ≡ length all)) → offset < size → IsSearchRefusal Fails known offset fault →
+    IsFileRefusal Fails known fault
+probe_refuses Fails None size offset fault is near refused = inr tt
+probe_refuses Fails (Some all) size offset fault (opl, is) near refused =
+    ⊎_elim
+    (λ short. ⊎_elim
+    (λ device. ⊎_elim (λ failure. inl failure) (λ (reason, long). absurd (omega (arith, long, short, is, near))) device)
+    (λ none. inr (λ held h. none h.versions (opl_file all h.versions opl h.file)))
+    (refused short))
+    (λ long. inr (λ held h. (let short = h.short in absurd (omega (arith, short, long)))))
+    (cases_lt (length all) (2 ^ 62))
+
 -- ---- one probe
 first_of : (versions : List VersionData) (first : Option VersionData) → IsFirstOf first versions →
     option_map object_of first ≡ object_of_first versions
@@ -84,12 +112,12 @@ pub finds_none : (known : Option (List ℕ)) (size step : ℕ) (found : List Fou
 finds_none None size step found = tt
 finds_none (Some all) size step found = λ is short versions file. sym (append-nil found)
 
-pub finds_more : (known : Option (List ℕ)) (size step number next offset : ℕ) (before found after : List Found) →
+pub finds_more : (Fails : Type 0) (known : Option (List ℕ)) (size step number next offset : ℕ) (before found after : List Found) →
     FindsFirst known size step number before found → next ≡ number + 1 → offset ≡ number * step → (first : Option VersionData) →
-    IsFirstFrom known offset (Ok first) → after ≡ found ++ found_once (min step (size - offset)) (option_map object_of first) →
+    IsFirstFrom Fails known offset (Ok first) → after ≡ found ++ found_once (min step (size - offset)) (option_map object_of first) →
     FindsFirst known size step next before after
-finds_more None size step number next offset before found after h one at first probe is = tt
-finds_more (Some all) size step number next offset before found after h one at first probe is = λ same short versions file.
+finds_more Fails None size step number next offset before found after h one at first probe is = tt
+finds_more Fails (Some all) size step number next offset before found after h one at first probe is = λ same short versions file.
     let object = found_first all versions file offset first (probe short) in
     let here : found_once (min step (size - offset)) (option_map object_of first) ≡ found_at step all (number * step) =
     (λ i. found_once (min step (same i - offset)) (object i)) ∙ ap (found_at step all) at in
@@ -191,6 +219,22 @@ module _ {F : Type 0} (known : F → Option (List ℕ)) where
       let push = sum_by_push opl_size d.before d.bytes in
       let whole : sum_by opl_size all ≡ sum_by opl_size (d.before ++ d.bytes ∷ []) = ap (sum_by opl_size) d.are in
       omega (arith, one, so_far, push, whole, sum)
+
+  -- If the OPL files up to one of these files are too long, all of them are.
+  pub total_long : (files : List F) (number total : ℕ) (file : F) (size : Option ℕ) → number < length files
+      → file ≡ get_or files number file → total < 2 ^ 62 → IsTotal known (take number files) total → IsOplSize (known file) size
+      → 2 ^ 62 - total ≤ unwrap_or size 0 → (all : List (List ℕ)) → HaveBytes known files all → 2 ^ 62 ≤ sum_by opl_size all
+  total_long files number total file size low is few h sized long all have =
+      let front : List F = take (number + 1) files in
+      let so_far : IsTotal known front (total + unwrap_or size 0) =
+      subst (λ (fs : List F). IsTotal known fs (total + unwrap_or size 0)) (sym (take_more files number file low is))
+      (total_more (take number files) file total (total + unwrap_or size 0) size h sized refl) in
+      let c = cut has_bytes front (drop (number + 1) files) all
+      (subst (λ (fs : List F). HaveBytes known fs all) (sym (take-append-drop (number + 1) files)) have) in
+      let before = so_far c.before c.first in
+      let both = sum_by-append opl_size c.before c.after in
+      let whole = ap (sum_by opl_size) c.joined in
+      omega (arith, before, both, whole, long, few)
 
   pub all_none : (step : ℕ) → FindsInAll known step [] []
   all_none step [] held have holds = refl

@@ -22,6 +22,8 @@ use Rattle.osm_merge.specs.declared.within.Outside.{Outside}
 use Rattle.osm_merge.specs.declared.selection.Selection.{Selection}
 use Rattle.osm_merge.specs.declared.selection.Selection.TheVariants as selection
 use Rattle.osm_merge.specs.Giving.{AllGive, SomeInputsGive}
+use Rattle.osm_files.specs.Groups.{sorted_source}
+use Rattle.osm_files.proofs.FirstFaultLaws.{sources_give}
 use Rattle.osm_merge.specs.Merged as merged
 use Rattle.osm_merge.specs.Selected.{selection_of}
 use Rattle.osm_merge.specs.ToCome as source
@@ -248,12 +250,18 @@ sets (c ∷ all) h =
     let others = sets all (All-tail IsRead (Any, c) (map (λ d. (Any, d)) all) h) in
     (one.0 ∷ others.0, (one.1, others.1))
 
+-- what the sources of sorted files give
+given_by : (number : ℕ) (inputs : List InputRest) → merge.AreGivenBy number inputs (sources_by sorted_source number inputs)
+given_by number [] = tt
+given_by number (c ∷ inputs) = (sources_give number c, given_by (number + 1) inputs)
+
 module _ {O : Type 0} (output : Ghosts O) (format : Format) (before after : O) where
   merge_refuses : (all : List InputRest) (fault : Fault) →
       RefusesRun output selection.All (map (λ c. (Sorted, c)) all) format before after fault →
       merge.Refuses all format (change_of output before after) fault
-  merge_refuses all fault =
-      mapped_refuses (λ c. (Sorted, c)) (λ number c fault h. h) output selection.All format before after fault all
+  merge_refuses all fault refused =
+      let r = mapped_refuses (λ c. (Sorted, c)) (λ number c fault h. h) output selection.All format before after fault all refused in
+      record { why = (sources_by sorted_source 0 all, given_by 0 all, r.why); cut = r.cut }
 
   slice_refuses : (slice : Slice) (all : List (Outside × InputRest)) (fault : Fault) →
       RefusesRun output slice.selection (map (λ c. (Within slice.span c.0, c.1)) all) format before after fault →

@@ -10,6 +10,7 @@ use Rattle.osm_files.specs.Held.{IsFile, HoldsSorted}
 use Rattle.osm_files.specs.Units.{InOpl, start_of}
 use Rattle.osm_files.proofs.FileLaws.{one_list}
 use Rattle.osm_files.proofs.JoinLaws.{Ended}
+use Rattle.osm_files.proofs.LineStarts.{start_lines}
 use Rattle.osm_merge.specs.declared.object.Object.{Object}
 use Rattle.osm_merge.specs.declared.object.Span.{Span}
 use Rattle.osm_merge.specs.Slice.{slice_of, spans, spans_from, IsWithin}
@@ -94,7 +95,8 @@ joined bytes file rest earlier later whole opl more_opl ends one other =
       whole = whole;
     }))) ends
 
-drop_take : (start offset : ℕ) (bytes : List ℕ) → start ≤ offset → take (offset - start) (drop start bytes) ≡ drop start (take offset bytes)
+pub drop_take : (start offset : ℕ) (bytes : List ℕ) → start ≤ offset
+    → take (offset - start) (drop start bytes) ≡ drop start (take offset bytes)
 drop_take zero offset bytes h = let e : offset - 0 ≡ offset = omega arith in rw e refl
 drop_take (suc start) zero bytes h = absurd (omega (arith, h))
 drop_take (suc start) (suc offset) [] h = take_none (suc offset - suc start)
@@ -107,11 +109,11 @@ drop_last zero text last = inr (text, refl)
 drop_last (suc start) [] last = inl (drop_nothing start)
 drop_last (suc start) (b ∷ text) last = drop_last start text last
 
-part_ends : (bytes : List ℕ) (start offset : ℕ) → start ≤ offset → BeginsLines bytes offset →
+pub part_ends : (bytes : List ℕ) (start offset : ℕ) → start ≤ offset → BeginsLines bytes offset →
     (take (offset - start) (drop start bytes) ≡ []) ⊎ (drop offset bytes ≡ []) ⊎ Ended (take (offset - start) (drop start bytes))
 part_ends bytes start offset up begins =
-    let s = split_lines begins.from bytes in
-    let rest : drop offset bytes ≡ lines_from begins.from bytes = begins.lines in
+    let s = split_lines offset bytes in
+    let rest : drop offset bytes ≡ lines_from offset bytes = ap (λ n. drop n bytes) (sym begins.line) ∙ start_lines offset bytes in
     let front : take offset bytes ≡ s.front =
     append_cancel_right (take offset bytes) s.front (drop offset bytes)
     (take-append-drop offset bytes ∙ s.whole ∙ ap (λ r. s.front ++ r) (sym rest)) in

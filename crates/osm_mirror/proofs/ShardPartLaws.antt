@@ -1,12 +1,13 @@
 -- The part of a sorted OPL file within a span holds the slice of what the file holds.
-use Rattle.std.proofs.Common.{◌≡◌, ℕ, zero, suc, ◌-◌, ◌≤◌, Bool, true, false, ◌&&◌, ◌||◌, cond, List, [], ◌∷◌, length, take}
-use Rattle.std.proofs.Common.{drop, Option, Some, None, refl, sym, ap, ◌∙◌, subst, arith}
+use Rattle.std.proofs.Common.{◌≡◌, ◌⊎◌, inl, inr, ⊎_elim, ℕ, zero, suc, ◌+◌, ◌-◌, ◌≤◌, ◌<◌, Bool, true, false, not, ◌&&◌, ◌||◌, cond}
+use Rattle.std.proofs.Common.{List, [], ◌∷◌, ◌++◌, length, take, drop, Option, Some, None, refl, sym, ap, ◌∙◌, subst, arith, append-nil}
+use Rattle.std.proofs.Common.{take-append-drop}
 use Rattle.std.specs.Cmp.{Equal-is}
 use Rattle.std.specs.Ordering.{is_lt, eq_by_cmp}
-use Rattle.std.specs.List.{list_any, filter}
-use Rattle.std.specs.List.Sorted.{IsSorted}
-use Rattle.std.proofs.lemmas.List.{take_all, length-take, length-drop}
-use Rattle.std.proofs.lemmas.List.Elements.{All-nil, All-cons}
+use Rattle.std.specs.List.{list_any, filter, AllByRecursion}
+use Rattle.std.proofs.lemmas.Bool.{false≢true, cases_lt}
+use Rattle.std.proofs.lemmas.List.{take_all, length-take, length-drop, nil_from_length, drop-drop, append_cancel_right}
+use Rattle.std.proofs.lemmas.List.Elements.{filter-append}
 use Rattle.std.proofs.lemmas.List.Kept.{IsSortedBy-filter}
 use Rattle.std.proofs.lemmas.List.Sorted.{ranks_by}
 use Rattle.osm_model.specs.Data.{VersionData}
@@ -15,19 +16,23 @@ use Rattle.osm_model.specs.VersionSet.{VersionSet}
 use Rattle.osm_model.specs.Sets.{contains, from_list}
 use Rattle.osm_model.proofs.SetLaws.{contains-from_list}
 use Rattle.osm_model.proofs.VersionLaws.{version_cmp-IsAntisymmetric}
-use Rattle.osm_files.specs.Held.{Holds, HoldsSorted, IsFileOf}
+use Rattle.osm_files.specs.Held.{HoldsSorted, IsFileOf}
+use Rattle.osm_files.specs.Lines.{BeginsLine}
 use Rattle.osm_files.specs.Opl.{OplFile}
 use Rattle.osm_files.specs.Units.{InOpl, start_of}
-use Rattle.osm_files.proofs.SpellLaws.{held_is_one_set}
+use Rattle.osm_files.proofs.FirstLaws.{one_opl}
+use Rattle.osm_files.proofs.JoinLaws.{Ended, SplitVersions}
+use Rattle.osm_files.proofs.LineStarts.{end_begins}
 use Rattle.osm_merge.specs.declared.object.Object.{Object}
 use Rattle.osm_merge.specs.declared.object.Span.{Span}
 use Rattle.osm_merge.specs.Members.{retain}
-use Rattle.osm_merge.specs.Slice.{object_order, slice_of, span_of, is_ascending, is_within, is_under, reaches, IsWithin}
-use Rattle.osm_merge.proofs.SliceLaws.{equal, kept_in, ascending_spans_are_sorted}
-use Rattle.osm_mirror.specs.Run.{union_of}
-use Rattle.osm_mirror.specs.Shards.{PartsHoldTheFile}
-use Rattle.osm_mirror.proofs.ShardLaws.{parts_hold_the_file}
+use Rattle.std.specs.List.Sorted.{IsSorted}
+use Rattle.osm_merge.specs.Slice.{slice_of, is_ascending, is_ascending_between, is_within, is_under, reaches, IsWithin}
+use Rattle.osm_merge.proofs.SliceLaws.{equal, kept_in}
+use Rattle.osm_mirror.specs.CutOffset.{IsUnderBefore}
 use Rattle.osm_mirror.specs.ShardPart.{BeginsAt, EndsAt, IsPartWithin}
+use Rattle.osm_mirror.proofs.CutLaws.{SplitLines, split_versions, cuts_rise}
+use Rattle.osm_mirror.proofs.ShardLaws.{part_ends}
 
 -- ---- booleans
 and_true : (b : Bool) → b && true ≡ b
@@ -79,7 +84,7 @@ retained p q same versions = equal _ _ (λ v.
     ∙ any_passes p q same v versions
     ∙ sym (contains-from_list version_cmp_total (filter q versions) v))
 
-within_itself : (span : Span) (held : VersionSet) → IsWithin span (slice_of span.from span.to held)
+pub within_itself : (span : Span) (held : VersionSet) → IsWithin span (slice_of span.from span.to held)
 within_itself span held =
     let p : VersionData → Bool = is_within span.from span.to in
     equal _ _ (λ v.
@@ -90,18 +95,57 @@ front_starts zero bytes e = refl
 front_starts (suc n) [] e = refl
 front_starts (suc n) (b ∷ bytes) e = e
 
-as_held : (bytes : List ℕ) (set : VersionSet) → HoldsSorted bytes set → Holds bytes set
-as_held bytes set h = record { short = h.short; versions = h.versions; file = h.file; members = h.members }
+-- ---- filtered lists
+-- all versions of a filtered list pass
+all_pass : (p : VersionData → Bool) (versions : List VersionData) → AllByRecursion (λ v. p v ≡ true) (filter p versions)
+all_pass p [] = tt
+all_pass p (v ∷ versions) =
+    elim (p v) as (λ t. p v ≡ t → AllByRecursion (λ w. p w ≡ true) (cond t (v ∷ filter p versions) (filter p versions))) [
+      | true ↦ λ e. (e, all_pass p versions)
+      | false ↦ λ e. all_pass p versions
+    ] refl
 
--- ---- the first sets of equal lists
-list_head : {x y : VersionSet} {xs ys : List VersionSet} → x ∷ xs ≡ y ∷ ys → x ≡ y
-list_head e = cc
+later_pass : (p : VersionData → Bool) (earlier later : List VersionData) → AllByRecursion (λ v. p v ≡ true) (earlier ++ later) →
+    AllByRecursion (λ v. p v ≡ true) later
+later_pass p [] later h = h
+later_pass p (v ∷ earlier) later h = later_pass p earlier later h.1
 
-list_second : {w x y z : VersionSet} {xs ys : List VersionSet} → w ∷ x ∷ xs ≡ y ∷ z ∷ ys → x ≡ z
-list_second e = cc
+passing : (p : VersionData → Bool) (versions : List VersionData) → AllByRecursion (λ v. p v ≡ true) versions →
+    filter p versions ≡ versions
+passing p [] h = refl
+passing p (v ∷ versions) h = rw h.0 (ap (λ vs. v ∷ vs) (passing p versions h.1))
+
+passing_both : (p q : VersionData → Bool) (versions : List VersionData) →
+    filter p (filter q versions) ≡ filter (λ v. p v && q v) versions
+passing_both p q [] = refl
+passing_both p q (v ∷ versions) =
+    let more = passing_both p q versions in
+    elim (q v) as (λ t. filter p (cond t (v ∷ filter q versions) (filter q versions))
+    ≡ cond (p v && t) (v ∷ filter (λ w. p w && q w) versions) (filter (λ w. p w && q w) versions)) [
+      | true ↦ (elim (p v) as (λ t. cond t (v ∷ filter p (filter q versions)) (filter p (filter q versions))
+          ≡ cond (t && true) (v ∷ filter (λ w. p w && q w) versions) (filter (λ w. p w && q w) versions)) [
+            | true ↦ ap (λ vs. v ∷ vs) more
+            | false ↦ more
+          ])
+      | false ↦ more ∙ ap (λ t. cond t (v ∷ filter (λ w. p w && q w) versions) (filter (λ w. p w && q w) versions))
+          (sym (and_false (p v)))
+    ]
+
+all_kept : (versions : List VersionData) → filter (λ v. true) versions ≡ versions
+all_kept [] = refl
+all_kept (v ∷ versions) = ap (λ vs. v ∷ vs) (all_kept versions)
+
+-- ---- where a file is cut
+-- a file isn't cut after its end
+cut_within : (all : List ℕ) (bound : Object) (start : ℕ) → IsUnderBefore all bound start → start ≤ length all
+cut_within all bound start under = ⊎_elim
+    (λ behind. absurd (
+    let none : drop (length all) all ≡ [] = nil_from_length (drop (length all) all) (omega (arith, length-drop (length all) all)) in
+    false≢true (under (length all) behind (end_begins all) [] (subst (λ (b : List ℕ). OplFile b []) (sym none) tt))))
+    (λ fine. fine) (cases_lt (length all) start)
 
 -- ---- one file
-module _ (law : PartsHoldTheFile) (all : List ℕ) (held part : VersionSet) (h : HoldsSorted all held) (opl : start_of all ≡ InOpl) where
+module _ (all : List ℕ) (held : VersionSet) (h : HoldsSorted all held) (opl : start_of all ≡ InOpl) where
   lines : OplFile all h.versions
   lines = subst (λ s. IsFileOf s all h.versions) opl h.file
 
@@ -116,68 +160,103 @@ module _ (law : PartsHoldTheFile) (all : List ℕ) (held part : VersionSet) (h :
     members = ap (λ (s : VersionSet). retain s p) h.members ∙ retained p q same h.versions;
   }
 
-  below : (bound : Object) (start : ℕ) → BeginsAt all (Some bound) start
-      → HoldsSorted (take (start - 0) all) (slice_of None (Some bound) held)
-  below bound start at =
-      let same : start ≡ start - 0 = omega arith in
-      subst (λ n. HoldsSorted (take n all) (slice_of None (Some bound) held)) same
-      (piece (take start all) (is_within None (Some bound)) (is_under (Some bound)) (λ v. refl) (front_starts start all opl)
-      (omega (arith, length-take start all)) (at.0 h.versions lines h.sorted).0)
+  -- the lines from the lower bound on
+  record From (from : Option Object) (start : ℕ) : Type 0 where
+    rest : OplFile (drop start all) (filter (reaches from) h.versions)
+    starts : start_of (drop start all) ≡ InOpl
 
-  above : (bound : Object) (end : ℕ) → EndsAt all (Some bound) end → HoldsSorted (drop end all) (slice_of (Some bound) None held)
-  above bound end at =
-      piece (drop end all) (is_within (Some bound) None) (reaches (Some bound)) (λ v. and_true (reaches (Some bound) v)) at.1.start
-      (omega (arith, length-drop end all)) (at.0 h.versions lines h.sorted).1
+  from_at : (from : Option Object) (start : ℕ) → BeginsAt all from start → From from start
+  from_at None start is = record {
+    rest = subst (λ n. OplFile (drop n all) (filter (reaches None) h.versions)) (sym is)
+        (subst (OplFile all) (sym (all_kept h.versions)) lines);
+    starts = ap (λ n. start_of (drop n all)) is ∙ opl;
+  }
+  from_at (Some bound) start at = record { rest = (at.0 h.versions lines h.sorted).1; starts = at.1.start }
 
-  -- the set of the pieces is that of the file
-  same_set : (sets : List VersionSet) → HoldsSorted all (union_of sets) → union_of sets ≡ held
-  same_set sets g = held_is_one_set all (union_of sets) held (as_held all (union_of sets) g) (as_held all held h)
+  -- the lines from the upper bound on, and how the lines before them end
+  record To (to : Option Object) (end : ℕ) : Type 0 where
+    later : List VersionData
+    rest : OplFile (drop end all) later
+    whole : h.versions ≡ filter (is_under to) h.versions ++ later
+    ends : (start : ℕ) → start ≤ end →
+        (take (end - start) (drop start all) ≡ []) ⊎ (drop end all ≡ []) ⊎ Ended (take (end - start) (drop start all))
 
-  one_bound : (bound : Object) → IsSorted object_order (bound ∷ [])
-  one_bound bound = λ k d low within. absurd (omega (arith, within))
+  -- a file in two parts
+  split_at : (start end : ℕ) → start ≤ end → take (end - start) (drop start all) ++ drop end all ≡ drop start all
+  split_at start end up =
+      let at : start + (end - start) ≡ end = omega (arith, up) in
+      ap (λ bs. take (end - start) (drop start all) ++ bs) (ap (λ n. drop n all) (sym at) ∙ sym (drop-drop (end - start) start all))
+      ∙ take-append-drop (end - start) (drop start all)
 
-  pub part_is : (from to : Option Object) (start end : ℕ) → is_ascending (span_of from to) ≡ true → BeginsAt all from start
-      → EndsAt all to end
-      → start ≤ end → HoldsSorted (take (end - start) (drop start all)) part → IsWithin (span_of from to) part
-      → part ≡ slice_of from to held
-  part_is None None start end rises begins ends low g within =
-      let whole : take (end - start) (drop start all) ≡ all =
-      (λ i. take (ends i - begins i) (drop (begins i) all)) ∙ take_all (length all - 0) all (omega arith) in
-      let same : part ≡ held = held_is_one_set all part held (as_held all part (subst (λ bytes. HoldsSorted bytes part) whole g))
-      (as_held all held h) in
-      sym within ∙ ap (slice_of None None) same
-  part_is None (Some b) start end rises begins ends low g within =
-      let sets : List VersionSet = part ∷ slice_of (Some b) None held ∷ [] in
-      let first : HoldsSorted (take (end - 0) (drop 0 all)) part = subst (λ n. HoldsSorted (take (end - n) (drop n all)) part) begins g in
-      let r = law (b ∷ []) all (end ∷ []) sets h.short opl (one_bound b) (omega arith, ends.1, tt)
-      (first, (above b end ends, tt)) (within, (within_itself (span_of (Some b) None) held, tt)) in
-      sym (list_head r.1) ∙ ap (slice_of None (Some b)) (same_set sets r.0)
-  part_is (Some a) None start end rises begins ends low g within =
-      let sets : List VersionSet = slice_of None (Some a) held ∷ part ∷ [] in
-      let last : take (end - start) (drop start all) ≡ drop start all =
-      take_all (end - start) (drop start all) (omega (arith, ends, length-drop start all)) in
-      let r = law (a ∷ []) all (start ∷ []) sets h.short opl (one_bound a) (omega arith, begins.1, tt)
-      (below a start begins, (subst (λ bytes. HoldsSorted bytes part) last g, tt)) (
-        within_itself (span_of None (Some a)) held,
-        (within, tt),
-      ) in
-      sym (list_second r.1) ∙ ap (slice_of (Some a) None) (same_set sets r.0)
-  part_is (Some a) (Some b) start end rises begins ends low g within =
-      let sets : List VersionSet = slice_of None (Some a) held ∷ part ∷ slice_of (Some b) None held ∷ [] in
-      let Rises : Span → Type 0 = λ s. is_ascending s ≡ true in
-      let sorted : IsSorted object_order (a ∷ b ∷ []) = ascending_spans_are_sorted (a ∷ b ∷ [])
-      (All-cons Rises (span_of None (Some a)) (span_of (Some a) (Some b) ∷ span_of (Some b) None ∷ []) refl
-      (All-cons Rises (span_of (Some a) (Some b)) (span_of (Some b) None ∷ []) rises
-      (All-cons Rises (span_of (Some b) None) [] refl (All-nil Rises)))) in
-      let r = law (a ∷ b ∷ []) all (start ∷ end ∷ []) sets h.short opl sorted (omega arith, begins.1, (low, ends.1, tt))
-      (below a start begins, (g, (above b end ends, tt)))
-      (within_itself (span_of None (Some a)) held, (within, (within_itself (span_of (Some b) None) held, tt))) in
-      sym (list_second r.1) ∙ ap (slice_of (Some a) (Some b)) (same_set sets r.0)
+  to_at : (to : Option Object) (end : ℕ) → EndsAt all to end → To to end
+  to_at None end is =
+      let none : drop end all ≡ [] = nil_from_length (drop end all) (omega (arith, is, length-drop end all)) in
+      record {
+        later = [];
+        rest = subst (λ (b : List ℕ). OplFile b []) (sym none) tt;
+        whole = sym (append-nil (filter (is_under None) h.versions) ∙ all_kept h.versions);
+        ends = λ start up. inr (inl none);
+      }
+  to_at (Some bound) end at =
+      let cut = at.0 h.versions lines h.sorted in
+      let ends : (start : ℕ) → start ≤ end → (take (end - start) (drop start all) ≡ []) ⊎ (drop end all ≡ [])
+      ⊎ Ended (take (end - start) (drop start all)) = λ start up. part_ends all start end up at.1 in
+      let s : SplitLines all (drop end all) = record {
+        front = take (end - 0) (drop 0 all);
+        whole = sym (split_at 0 end (omega arith));
+        ends = ends 0 (omega arith);
+      } in
+      let v = split_versions all (drop end all) s h.versions lines in
+      let same : end - 0 ≡ end = omega arith in
+      let front : v.earlier ≡ filter (is_under (Some bound)) h.versions =
+      one_opl (take end all) v.earlier (filter (is_under (Some bound)) h.versions)
+      (subst (λ n. OplFile (take n all) v.earlier) same v.first) cut.0 in
+      record { later = v.later; rest = v.second; whole = v.are ∙ ap (λ vs. vs ++ v.later) front; ends = ends }
 
--- The part of a sorted OPL file within a span, if it is a sorted file within the span, holds the slice of what the file holds.
-pub part_is_the_slice : (span : Span) (all : List ℕ) (start end : ℕ) (held part : VersionSet) → is_ascending span ≡ true
-    → start_of all ≡ InOpl → HoldsSorted all held → IsPartWithin span all start end
-    → HoldsSorted (take (end - start) (drop start all)) part → IsWithin span part
-    → part ≡ slice_of span.from span.to held
-part_is_the_slice span all start end held part rises opl h within g inside =
-    part_is parts_hold_the_file all held part h opl span.from span.to start end rises within.begins within.ends within.ascends g inside
+  -- the lines from the lower bound up to the upper one
+  middle : (from to : Option Object) (start end : ℕ) → start ≤ end → From from start → To to end →
+      OplFile (take (end - start) (drop start all)) (filter (is_within from to) h.versions)
+  middle from to start end up f t =
+      let part : List ℕ = take (end - start) (drop start all) in
+      let s : SplitLines (drop start all) (drop end all) =
+      record { front = part; whole = sym (split_at start end up); ends = t.ends start up } in
+      let v = split_versions (drop start all) (drop end all) s (filter (reaches from) h.versions) f.rest in
+      let last : v.later ≡ t.later = one_opl (drop end all) v.later t.later v.second t.rest in
+      let reach : filter (reaches from) v.later ≡ v.later = passing (reaches from) v.later
+      (later_pass (reaches from) v.earlier v.later
+      (subst (AllByRecursion (λ w. reaches from w ≡ true)) v.are (all_pass (reaches from) h.versions))) in
+      let both : v.earlier ++ v.later ≡ filter (is_within from to) h.versions ++ v.later =
+      sym v.are ∙ ap (filter (reaches from)) t.whole
+      ∙ filter-append (reaches from) (filter (is_under to) h.versions) t.later
+      ∙ (λ i. passing_both (reaches from) (is_under to) h.versions i ++ filter (reaches from) (sym last i))
+      ∙ ap (λ vs. filter (is_within from to) h.versions ++ vs) reach in
+      subst (OplFile part) (append_cancel_right v.earlier (filter (is_within from to) h.versions) v.later both) v.first
+
+-- The part of a sorted OPL file within a span is a sorted file, and holds the slice of what the file holds.
+pub part_holds : (span : Span) (all : List ℕ) (start end : ℕ) (held : VersionSet) → start_of all ≡ InOpl → HoldsSorted all held →
+    IsPartWithin span all start end → HoldsSorted (take (end - start) (drop start all)) (slice_of span.from span.to held)
+part_holds span all start end held opl h within =
+    let f = from_at all held h opl span.from start within.begins in
+    let t = to_at all held h opl span.to end within.ends in
+    piece all held h opl (take (end - start) (drop start all)) (is_within span.from span.to) (is_within span.from span.to) (λ v. refl)
+    (front_starts (end - start) (drop start all) f.starts)
+    (omega (arith, length-take (end - start) (drop start all), length-drop start all))
+    (middle all held h opl span.from span.to start end within.ascends f t)
+
+is_not : (b : Bool) → not b ≡ true → b ≡ false
+is_not true h = absurd (false≢true h)
+is_not false h = refl
+
+rises_between : (from to : Option Object) (all : List ℕ) (start end : ℕ) (versions : List VersionData) → OplFile all versions →
+    IsSorted key_cmp versions → is_ascending_between from to ≡ true → BeginsAt all from start → EndsAt all to end → start ≤ end
+rises_between None to all start end versions file sorted rises begins ends = omega (arith, begins)
+rises_between (Some a) None all start end versions file sorted rises begins ends =
+    let within = cut_within all a start (begins.0 versions file sorted).2 in omega (arith, within, ends)
+rises_between (Some a) (Some b) all start end versions file sorted rises begins ends =
+    cuts_rise a b (is_not _ rises) all start end versions file sorted begins.0 ends.0 ends.1.line
+
+-- The part of a sorted OPL file within a span doesn't end before it begins.
+pub part_rises : (span : Span) (all : List ℕ) (start end : ℕ) (held : VersionSet) → is_ascending span ≡ true → start_of all ≡ InOpl →
+    HoldsSorted all held → BeginsAt all span.from start → EndsAt all span.to end → start ≤ end
+part_rises span all start end held rises opl h begins ends =
+    rises_between span.from span.to all start end h.versions (subst (λ s. IsFileOf s all h.versions) opl h.file) h.sorted rises begins ends

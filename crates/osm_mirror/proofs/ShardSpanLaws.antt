@@ -10,7 +10,7 @@ use Rattle.std.proofs.lemmas.List.Elements.{All-contains, All-from_recursion}
 use Rattle.std.proofs.lemmas.List.Sorted.{IsPermutation-refl}
 use Rattle.osm_merge.specs.declared.object.Object.{Object}
 use Rattle.osm_merge.specs.declared.object.Span.{Span}
-use Rattle.osm_merge.specs.Slice.{object_order, span_of, spans_from, spans, is_ascending}
+use Rattle.osm_merge.specs.Slice.{object_order, span_of, spans_from, spans, is_ascending, is_ascending_between}
 use Rattle.osm_merge.proofs.SliceLaws.{ascending_spans_are_sorted}
 use Rattle.osm_mirror.specs.declared.bounds.Found.{Found}
 use Rattle.osm_mirror.specs.Bounds.{total_weight, weight_below, is_past, bound_of, bound_then, bounds_from, bounds_of, span_at, shard_span}
@@ -222,3 +222,35 @@ pub span_of_found : (number count : ℕ) (all : List (List ℕ)) (found : List F
 span_of_found number count all found some within moved =
     sym (span_is count (found_in_all (step_of count all) all) number some within
     ∙ moved_span number count (found_in_all (step_of count all) all) found moved)
+
+-- the span between two bounds of any objects ascends
+pub number_ascends : (number count : ℕ) (found : List Found) (span : Span) → 0 < number → number ≤ count
+    → span_of_number number count found ≡ Some span → is_ascending span ≡ true
+number_ascends number count found span some within e =
+    at_index (λ s. is_ascending s ≡ true) (spans (bounds_from (count - 1) 1 count found)) (spans_ascend count found (count - 1) 1 None tt)
+    (number - 1) span (span_is count found number some within ∙ e)
+
+-- the two bounds of a shard after the first one ascend
+pub bounds_between : (number count : ℕ) (found : List Found) (from : Object) (to : Option Object) → 1 < number → number ≤ count
+    → bound_of (number - 1) count found ≡ Some from → bound_after number count found ≡ to
+    → is_ascending_between (Some from) to ≡ true
+bounds_between number count found from to some within low high =
+    let later : (number == 1) ≡ false = grind (arith, nat_tests) in
+    let is : span_of_number number count found ≡ Some (span_of (Some from) to) =
+    ap (λ t. cond t (Some (span_of None (bound_after number count found)))
+    (span_from (bound_of (number - 1) count found) (bound_after number count found))) later
+    ∙ (λ i. span_from (low i) (high i)) in
+    number_ascends number count found (span_of (Some from) to) (omega (arith, some)) within is
+
+-- the span between the two bounds of a shard after the first one, if its upper bound is kept where the span ascends
+pub later_span_is : (number count : ℕ) (found : List Found) (from : Object) (to kept : Option Object) → 1 < number → number ≤ count
+    → Some from ≡ bound_of (number - 1) count found → to ≡ bound_after number count found
+    → (is_ascending_between (Some from) to ≡ true → kept ≡ to)
+    → Some (span_of (Some from) kept) ≡ span_of_number number count found
+later_span_is number count found from to kept some within low high keep =
+    let later : (number == 1) ≡ false = grind (arith, nat_tests) in
+    let same = keep (bounds_between number count found from to some within (sym low) (sym high)) in
+    ap (λ t. Some (span_of (Some from) t)) same
+    ∙ (λ i. span_from (low i) (high i))
+    ∙ sym (ap (λ t. cond t (Some (span_of None (bound_after number count found)))
+    (span_from (bound_of (number - 1) count found) (bound_after number count found))) later)

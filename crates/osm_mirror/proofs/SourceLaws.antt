@@ -130,7 +130,7 @@ one_gives can number reader still h =
     sym h.2 ∙ source_begins_known (with_rest (new_source number reader).units h.0) [] number (Some h.0) refl refl in
     (h.0, h.1, cc)
 
-at_first : (content : Content) → IsAppended content content []
+pub at_first : (content : Content) → IsAppended content content []
 at_first content held h = subst content (sym (append-nil held)) h
 
 -- If memory runs out before anything is written, the file is cut after no bytes.

@@ -5,12 +5,12 @@ use Rattle.std.proofs.Common.{arith, IsTrue, ◌↔◌, Bor}
 use Rattle.std.specs.List.{All}
 use Rattle.std.proofs.lemmas.Bool.{false≢true}
 use Rattle.std.proofs.lemmas.List.{take_all}
-use Rattle.std.proofs.lemmas.List.Elements.{All-nil, All-cons, All-append}
+use Rattle.std.proofs.lemmas.List.Elements.{All-nil, All-cons, All-head, All-tail, All-append}
 use Rattle.osm_files.specs.declared.fault.Fault.{Fault}
 use Rattle.osm_files.specs.declared.sorted_run.SortedRun.{SortedRun}
 use Rattle.osm_files.specs.declared.reason.Reason.TheVariants.{ReadFault}
 use Rattle.osm_files.specs.Fault.{memory_fault, IsOfFile}
-use Rattle.osm_files.specs.FileRuns.{IfWhole, IsAccepted, IsSortedRun, IsFirstUnsorted, IsRefusalOf}
+use Rattle.osm_files.specs.FileRuns.{IfWhole, IsAccepted, IsAcceptedRun, IsSortedRun, IsSortedIfAccepted, IsFirstUnsorted, IsRefusalOf}
 use Rattle.osm_files.specs.Input.{InputRest}
 use Rattle.osm_files.specs.SortedRun.{IsSplitIntoRuns, run_bytes, whole_run}
 use Rattle.osm_files.proofs.SplitLaws.{whole_file}
@@ -125,14 +125,24 @@ pub runs_fit : (known : Option (List ℕ)) (way : FileWay) → way.size < 2 ^ 62
 runs_fit None way short long split = (short, tt)
 runs_fit (Some all) way short long split = (short, (long, split (omega (arith, short, long))))
 
+-- runs that have one property, and another one if they have the first
+both_all : (P Q : SortedRun → Type 0) (runs : List SortedRun) → All (λ run. P run → Q run) runs → All P runs → All Q runs
+both_all P Q [] follows has = All-nil Q
+both_all P Q (run ∷ runs) follows has =
+    All-cons Q run runs (All-head (λ run. P run → Q run) run runs follows (All-head P run runs has))
+    (both_all P Q runs (All-tail (λ run. P run → Q run) run runs follows) (All-tail P run runs has))
+
 -- The runs that are found in an accepted file are sorted files.
 pub runs_sorted : (known : Option (List ℕ)) (size : ℕ) (first : Option ℕ) (runs : List SortedRun) → IfSome known (λ all. length all ≡ size)
     → IfSome first (λ place. IfSome known (λ all. IsAccepted all → IsFirstUnsorted all place))
-    → IfWhole known size (λ all. IfSome first (IsFirstUnsorted all) → All (IsSortedRun all) runs)
+    → IfWhole known size (λ all. IfSome first (IsFirstUnsorted all) → All (IsSortedIfAccepted all) runs)
+    → IfWhole known size (λ all. IsAccepted all → All (IsAcceptedRun all) runs)
     → IfSome known (λ all. IsAccepted all → All (IsSortedRun all) runs)
-runs_sorted None size first runs long right sorted = tt
-runs_sorted (Some all) size None runs long right sorted = λ accepted. sorted long tt
-runs_sorted (Some all) size (Some place) runs long right sorted = λ accepted. sorted long (right accepted)
+runs_sorted None size first runs long right sorted files = tt
+runs_sorted (Some all) size None runs long right sorted files = λ accepted.
+    both_all (IsAcceptedRun all) (IsSortedRun all) runs (sorted long tt) (files long accepted)
+runs_sorted (Some all) size (Some place) runs long right sorted files = λ accepted.
+    both_all (IsAcceptedRun all) (IsSortedRun all) runs (sorted long (right accepted)) (files long accepted)
 
 -- ---- ways that are changed in place
 none_left : {X : Type 0} (xs : List X) (k : ℕ) → length xs ≤ k → drop k xs ≡ []

@@ -1,40 +1,58 @@
 -- The offset at which an OPL file is cut at an object: an own rule of this project.
-use Rattle.std.specs.Prelude.{◌≡◌, ◌⊎◌, ℕ, ◌<◌, ◌^◌, Bool, false, List, [], ◌∷◌, length, take, drop, Option, Some}
-use Rattle.std.specs.Prelude.{IfSome}
+use Rattle.std.specs.Prelude.{◌≡◌, ◌⊎◌, ℕ, ◌<◌, ◌^◌, Bool, true, false, List, [], ◌∷◌, length, take, drop, Option}
+use Rattle.std.specs.Prelude.{Some, IfSome}
 use Rattle.std.specs.Prelude.{if◌then◌else◌}
 use Rattle.std.specs.List.{filter}
 use Rattle.std.specs.List.Sorted.{IsSorted}
 use Rattle.osm_model.specs.Data.{VersionData}
 use Rattle.osm_model.specs.Order.{key_cmp}
 use Rattle.osm_files.specs.declared.fault.Fault.{Fault}
-use Rattle.osm_files.specs.Lines.{lines_from, IsDeviceFault}
+use Rattle.osm_files.specs.FileRuns.{IsReadFailure}
+use Rattle.osm_files.specs.Lines.{lines_from, BeginsLine, IsDeviceFault}
 use Rattle.osm_files.specs.Opl.{OplFile}
 use Rattle.osm_files.specs.Units.{FileStateData, InOpl, BeforeHeader, start_of}
 use Rattle.osm_merge.specs.declared.object.Object.{Object}
 use Rattle.osm_merge.specs.Slice.{reaches, is_under}
 
--- for a sorted file, the lines before the offset spell its versions whose objects are below the bound, and the lines
--- from the offset on spell the others
+-- is the object of the first of some versions below the bound?
+abbrev pub first_is_under : Object → List VersionData → Bool
+first_is_under bound [] = false
+first_is_under bound (v ∷ versions) = is_under (Some bound) v
+
+-- wherever a line begins before the offset, the first version from there on is below the bound
+abbrev pub IsUnderBefore : List ℕ → Object → ℕ → Type 0
+IsUnderBefore bytes bound offset = (start : ℕ) → start < offset → BeginsLine bytes start → (later : List VersionData)
+    → OplFile (drop start bytes) later → first_is_under bound later ≡ true
+
+-- For a sorted file, the lines before the offset spell its versions whose objects are below the bound, and the lines
+-- from the offset on spell the others. Of the offsets at which a line begins, it is the first from which on the first
+-- version isn't below the bound. So a sorted file is cut at a bound at one offset.
 abbrev pub IsCutAt : List ℕ → Object → ℕ → Type 0
 IsCutAt bytes bound offset =
     (versions : List VersionData) → OplFile bytes versions → IsSorted key_cmp versions
     → OplFile (take offset bytes) (filter (is_under (Some bound)) versions)
     × OplFile (drop offset bytes) (filter (reaches (Some bound)) versions)
+    × IsUnderBefore bytes bound offset
 
--- lines begin at the offset, and the bytes from there on don't begin as an o5 file does
+-- a line begins at the offset, or the file ends there, and the bytes from there on don't begin as an o5 file does
 pub record BeginsLines (bytes : List ℕ) (offset : ℕ) : Type 0 where
-  pub from : ℕ
-  pub lines : drop offset bytes ≡ lines_from from bytes
+  pub line : BeginsLine bytes offset
   pub start : start_of (drop offset bytes) ≡ InOpl
 
 -- the offset is one at which a file is cut, if the file's bytes are known and aren't too many
 abbrev pub IsCutOf : Option (List ℕ) → Object → ℕ → Type 0
 IsCutOf bytes bound offset = IfSome bytes (λ all. length all < 2 ^ 62 → IsCutAt all bound offset)
 
--- A file is refused because memory ran out, the device failed or the file is too long; or it is no OPL file.
-abbrev pub IsCutRefusal : Option (List ℕ) → Fault → Type 0
-IsCutRefusal bytes fault = IfSome bytes (λ all. length all < 2 ^ 62 →
-    IsDeviceFault fault ⊎ ((versions : List VersionData) → OplFile all versions → ⊥))
+-- A file is refused because memory ran out or it can't be read; or it is no OPL file. `Fails` holds if reads of the
+-- file may fail.
+abbrev pub IsCutRefusal : Type 0 → Option (List ℕ) → Fault → Type 0
+IsCutRefusal Fails bytes fault = IfSome bytes (λ all. length all < 2 ^ 62 →
+    IsReadFailure Fails fault ⊎ ((versions : List VersionData) → OplFile all versions → ⊥))
+
+-- the same for a search from an offset on, which may be too great
+abbrev pub IsSearchRefusal : Type 0 → Option (List ℕ) → ℕ → Fault → Type 0
+IsSearchRefusal Fails bytes offset fault = IfSome bytes (λ all. length all < 2 ^ 62 →
+    IsDeviceFault Fails (Some all) offset fault ⊎ ((versions : List VersionData) → OplFile all versions → ⊥))
 
 -- the state at the start of bytes that begin as an o5 file does, or of others
 abbrev pub start_if : Bool → FileStateData
@@ -47,11 +65,6 @@ BeginsAs bytes offset is_o5 = IfSome bytes (λ all. start_of (drop offset all) �
 -- lines of OPL begin at the offset, if the file's bytes are known
 abbrev pub BeginsLinesOf : Option (List ℕ) → ℕ → Type 0
 BeginsLinesOf bytes offset = IfSome bytes (λ all. BeginsLines all offset)
-
--- is the object of the first of some versions below the bound?
-abbrev pub first_is_under : Object → List VersionData → Bool
-first_is_under bound [] = false
-first_is_under bound (v ∷ versions) = is_under (Some bound) v
 
 -- whether the object of the first version in the lines from an offset on is below the bound
 abbrev pub IsFirstUnder : Option (List ℕ) → Object → ℕ → Bool → Type 0

@@ -12,6 +12,7 @@ use Rattle.osm_merge.specs.declared.selection.Selection.{Selection}
 use Rattle.osm_merge.specs.Giving.{AllGive, SomeInputsGive}
 use Rattle.osm_merge.specs.Merged.{WritesSet, HasBegun, HasBegunIn}
 use Rattle.osm_merge.specs.Selected.{selection_of}
+use Rattle.osm_merge.specs.ToCome.{VersionsToCome}
 use Rattle.osm_merge.specs.Union.{union_given}
 use Rattle.osm_mirror.specs.declared.input.InputFile.{InputFile}
 use Rattle.osm_mirror.specs.declared.input.ReadAs.{ReadAs}
@@ -75,11 +76,11 @@ RunsWriteASet {O = O} output = (selection : Selection) (all : List (ReadAs × In
     (before after : O) (counts : Counts) → IsRun selection all format (change_of output before after) counts →
     WritesSet format (change_of output before after) counts
 
--- a merge that was refused wrote a front of the file of the union
+-- a merge that was refused wrote a front of the file of the union of what its inputs give
 abbrev pub RefusedMergesHaveBegun : {O : Type 0} → Ghosts O → Type 0
 RefusedMergesHaveBegun {O = O} output = (all : List InputRest) (format : Format) (before after : O) (fault : Fault) →
     merge.Refuses all format (change_of output before after) fault →
-    HasBegun (merge.sources 0 all) format (change_of output before after)
+    (given : List VersionsToCome) × merge.AreGivenBy 0 all given × HasBegun given format (change_of output before after)
 
 -- a run that was refused wrote a front of the file of the selection
 abbrev pub RefusedRunsHaveBegun : {O : Type 0} → Ghosts O → Type 0

@@ -29,3 +29,4 @@ pub mod Probes
 pub mod ShardSpan
 pub mod ShardPart
 pub mod ShardRun
+pub mod ShardRefusal

@@ -1,5 +1,5 @@
 -- The search for the objects that bound shards, in files whose bytes are known: an own rule of this project.
-use Rattle.std.specs.Prelude.{◌≡◌, ℕ, ◌<◌, ◌^◌, Bool, true, false, List, ◌++◌, length, Option, Some, None, IfSome}
+use Rattle.std.specs.Prelude.{◌≡◌, ℕ, ◌<◌, ◌^◌, Bool, true, List, ◌++◌, length, Option, Some, None, IfSome}
 use Rattle.std.specs.Prelude.{sum_by}
 use Rattle.std.specs.Ordering.{is_lt}
 use Rattle.std.specs.List.Sorted.{IsSortedBy}
@@ -11,19 +11,11 @@ use Rattle.osm_files.specs.Opl.{OplFile}
 use Rattle.osm_merge.specs.declared.object.Object.{Object}
 use Rattle.osm_merge.specs.Slice.{object_order}
 use Rattle.osm_mirror.specs.declared.bounds.Found.{Found}
-use Rattle.osm_mirror.specs.Bounds.{is_opl, opl_size, probe_count, found_by, found_in, found_in_all}
+use Rattle.osm_mirror.specs.Bounds.{opl_size, probe_count, found_by, found_in, found_in_all}
 
 -- the files have these bytes, one for one
 abbrev pub HaveBytes : {F : Type 0} → (F → Option (List ℕ)) → List F → List (List ℕ) → Type 0
 HaveBytes known files all = Pairwise (λ file bytes. known file ≡ Some bytes) files all
-
--- a file has these bytes; and if it isn't OPL, its reads don't fail
-abbrev pub IsReadable : {F : Type 0} → (F → Option (List ℕ)) → (F → Type 0) → F → List ℕ → Type 0
-IsReadable known fails file bytes = (known file ≡ Some bytes) × (is_opl bytes ≡ false → fails file → ⊥)
-
--- the same of files, one for one
-abbrev pub AreReadable : {F : Type 0} → (F → Option (List ℕ)) → (F → Type 0) → List F → List (List ℕ) → Type 0
-AreReadable known fails files all = Pairwise (IsReadable known fails) files all
 
 -- the objects ascend
 abbrev pub Ascend : List Found → Type 0

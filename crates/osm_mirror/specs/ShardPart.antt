@@ -1,21 +1,19 @@
 -- The part of a file that a shard reads, and what it holds: an own rule of this project.
-use Rattle.std.specs.Prelude.{◌≡◌, ℕ, ◌-◌, ◌<◌, ◌≤◌, ◌^◌, true, false, List, length, Option, Some, None, IfSome}
+use Rattle.std.specs.Prelude.{◌≡◌, ℕ, ◌-◌, ◌<◌, ◌≤◌, ◌^◌, true, false, List, [], length, Option, Some, None, IfSome}
 use Rattle.std.specs.Prelude.{if◌then◌else◌}
-use Rattle.osm_model.specs.VersionSet.{VersionSet}
+use Rattle.osm_model.specs.Pairwise.{Pairwise}
 use Rattle.osm_files.specs.declared.sorted_run.SortedRun.{SortedRun}
-use Rattle.osm_files.specs.Held.{HoldsSorted}
+use Rattle.osm_files.specs.Extent.{GivesRun}
 use Rattle.osm_files.specs.Input.{InputRest}
 use Rattle.osm_files.specs.SortedRun.{whole_run}
 use Rattle.osm_merge.specs.declared.object.Object.{Object}
 use Rattle.osm_merge.specs.declared.object.Span.{Span}
 use Rattle.osm_merge.specs.declared.within.Outside.{Outside}
 use Rattle.osm_merge.specs.declared.within.Outside.TheVariants.{Dropped, Refused}
-use Rattle.osm_merge.specs.Slice.{slice_of, is_ascending}
 use Rattle.osm_mirror.specs.declared.shard_part.FilePart.{FilePart}
 use Rattle.osm_mirror.specs.declared.slice.SliceFile.{SliceFile}
 use Rattle.osm_mirror.specs.Bounds.{is_opl}
 use Rattle.osm_mirror.specs.CutOffset.{IsCutAt, BeginsLines}
-use Rattle.osm_mirror.specs.SliceRun.{SliceGives, HasSlice}
 
 -- the size of a file if it is OPL
 abbrev pub size_if_opl : List ℕ → Option ℕ
@@ -63,8 +61,15 @@ pub record IsFilePart (span : Span) (all : List ℕ) (part : FilePart) : Type 0 
 abbrev pub IsPartOf : Span → Option (List ℕ) → FilePart → Type 0
 IsPartOf span known part = IfSome known (λ all. length all < 2 ^ 62 → IsFilePart span all part)
 
--- if a run accepts this input, it gives the slice of what a sorted file with these bytes holds
-abbrev pub GivesTheSlice : {R : Type 0} → (R → InputRest → Type 0) → Span → List ℕ → SliceFile R → Type 0
-GivesTheSlice can span bytes input = is_ascending span ≡ true → (given : Outside × InputRest) (part set : VersionSet)
-    → SliceGives can input given → HasSlice span given part → HoldsSorted bytes set
-    → part ≡ slice_of span.from span.to set
+module _ {F R : Type 0} (known : F → Option (List ℕ)) (fails : F → Type 0) (can : R → InputRest → Type 0) where
+  -- an input is a part of a file within a span: the input can give only what the part of the file gives
+  pub record IsInputOf (span : Span) (file : F) (input : SliceFile R) : Type 0 where
+    pub part : FilePart
+    pub is : IsPartOf span (known file) part
+    pub outside : input.outside ≡ part.outside
+    pub reads : (c : InputRest) → can input.reader c → GivesRun (fails file) (known file) part.run part.size c
+
+  -- the inputs are the parts of these files within a span, one for one; without a span there are none
+  abbrev pub AreInputsOf : Option Span → List F → List (SliceFile R) → Type 0
+  AreInputsOf None files inputs = inputs ≡ []
+  AreInputsOf (Some span) files inputs = Pairwise (IsInputOf span) files inputs

@@ -38,13 +38,13 @@ pub record IsShardRun (run : ShardRun) (all : List (List ℕ)) (held : List Vers
       (size (shard_set run.selection run.shard.number run.shard.count all held))
 
 -- A run for a span of objects over files that hold these sets: the one spelling of the selection of the union of the
--- sets' slices was appended.
-pub record IsSpanRun (selection : Selection) (span : Span) (held : List VersionSet) (format : Format)
+-- sets' slices was appended. Without a span there are no slices.
+pub record IsSpanRun (selection : Selection) (span : Option Span) (held : List VersionSet) (format : Format)
     (change : Change) (counts : Counts) : Type 0 where
   pub written : Appends change
-      (spell format (selection_of selection (union_of (shard_slices (Some span) held))))
+      (spell format (selection_of selection (union_of (shard_slices span held))))
   pub written_count : counts.written ≡ capped_count
-      (size (selection_of selection (union_of (shard_slices (Some span) held))))
+      (size (selection_of selection (union_of (shard_slices span held))))
 
 -- what the first `most` shards from the shard `number` on append as OPL, one for one
 abbrev pub shard_outputs : Selection → ℕ → List (List ℕ) → List VersionSet → ℕ → ℕ → List (List ℕ)

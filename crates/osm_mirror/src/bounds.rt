@@ -1,14 +1,17 @@
 //! The bounds of shards. Objects are looked up at regular offsets of all OPL files, and the bounds cut them into shares
 //! of about equal size.
-ghost use Rattle.std.specs.Prelude.{◌≡◌, ◌++◌, ◌*◌, ◌<◌, ◌≤◌, ◌^◌, nat_le, List, ℕ, IfOk, OnOk, option_map};
-ghost use Rattle.std.specs.Prelude.{if◌then◌else◌};
+ghost use Rattle.std.specs.Prelude.{◌≡◌, ◌++◌, ◌*◌, ◌<◌, ◌≤◌, ◌^◌, nat_le, true, length, List, ℕ, IfOk, OnOk, IfErr};
+ghost use Rattle.std.specs.Prelude.{IfSome, option_map, if◌then◌else◌};
 ghost use Rattle.std.specs.List.Sorted.{IsPermutation};
 ghost use Rattle.osm_model.specs.Pairwise.{Pairwise};
 ghost use Rattle.osm_model.specs.VersionSet.{VersionSet};
+ghost use Rattle.osm_files.specs.Fault.{IsOfFile};
 ghost use Rattle.osm_files.specs.Held.{HoldsSorted};
 ghost use Rattle.osm_merge.specs.Slice.{object_of};
-ghost use Rattle.osm_mirror.specs.Bounds.{step_of, found_in_all, found_once, probe_count, total_weight, bound_of};
+ghost use Rattle.osm_mirror.specs.Bounds.{is_opl, step_of, found_in_all, found_once, probe_count, total_weight};
+ghost use Rattle.osm_mirror.specs.Bounds.{bound_of};
 ghost use Rattle.osm_mirror.specs.Probes.{HaveBytes, IsTotal, FindsInAll, FindsIn, FindsBy, Ascend, is_above};
+ghost use Rattle.osm_mirror.specs.ShardRefusal.{AreRefused, IsFileRefusal};
 
 use crate::shard_part::opl_size;
 use osm_files::{Fault, LENGTH_LIMIT, ReadAt, first_version};
@@ -40,6 +43,8 @@ pub(crate) fn find_objects<F: ReadAt>(
     ensures found { IfOk result (λ found. (all : List (List ℕ)) (held : List VersionSet)
         → HaveBytes (λ file. F.bytes file.now) files.now all → Pairwise HoldsSorted all held
         → IsPermutation (found_in_all (step_of count all) all) found.items × (total_weight found.items < 2 ^ 62)) }
+    ensures refused { IfErr result (AreRefused (λ file. F.bytes file.now) (λ file. F.fails file.now) IsFileRefusal
+        files.now) }
 {
     let step = (total_size(files)? / (PROBES_OF_SHARD * count)).max(1);
     let mut found = probe_files(alloc, files, step)?;
@@ -51,6 +56,8 @@ pub(crate) fn find_objects<F: ReadAt>(
 fn total_size<F: ReadAt>(files: &[&F]) -> Result<u64, Fault>
     ensures total { IfOk result (IsTotal (λ file. F.bytes file.now) files.now) }
     ensures short { IfOk result (λ total. total < 2 ^ 62) }
+    ensures refused { IfErr result (AreRefused (λ file. F.bytes file.now) (λ file. F.fails file.now) IsFileRefusal
+        files.now) }
 {
     let mut total = 0_u64;
     'files: for (number, file) in files.iter().enumerate() {
@@ -66,7 +73,9 @@ fn total_size<F: ReadAt>(files: &[&F]) -> Result<u64, Fault>
 /// The objects that are found in the OPL files, file by file, at the multiples of `step`.
 fn probe_files<F: ReadAt>(alloc: Global, files: &[&F], step: u64) -> Result<Vec<Found>, Fault>
     requires some { 0 < step }
-    ensures { IfOk result (λ found. FindsInAll (λ file. F.bytes file.now) step files.now found.items) }
+    ensures found { IfOk result (λ found. FindsInAll (λ file. F.bytes file.now) step files.now found.items) }
+    ensures refused { IfErr result (AreRefused (λ file. F.bytes file.now) (λ file. F.fails file.now) IsFileRefusal
+        files.now) }
 {
     let mut found = Vec::new(alloc);
     'files: for (number, file) in files.iter().enumerate() {
@@ -84,7 +93,9 @@ fn probe_file<F: ReadAt>(
     found: &mut Vec<Found>,
 ) -> Result<(), Fault>
     requires some { 0 < step }
-    ensures { OnOk result (FindsIn (F.bytes file.now) step found.old.items found.new.items) }
+    ensures found { OnOk result (FindsIn (F.bytes file.now) step found.old.items found.new.items) }
+    ensures refused { IfErr result (IsFileRefusal (F.fails file.now) (F.bytes file.now)) }
+    ensures number { IfErr result (IsOfFile input) }
 {
     match opl_size(file, input)? {
         Some(size) => probe_lines(alloc, file, input, size, step, found),
@@ -102,7 +113,10 @@ fn probe_lines<F: ReadAt>(
     found: &mut Vec<Found>,
 ) -> Result<(), Fault>
     requires some { 0 < step }
-    ensures { OnOk result (FindsBy (F.bytes file.now) size step found.old.items found.new.items) }
+    requires size { IfSome (F.bytes file.now) (λ all. (is_opl all ≡ true) × (size ≡ length all)) }
+    ensures found { OnOk result (FindsBy (F.bytes file.now) size step found.old.items found.new.items) }
+    ensures refused { IfErr result (IsFileRefusal (F.fails file.now) (F.bytes file.now)) }
+    ensures number { IfErr result (IsOfFile input) }
 {
     'probes: for number in 0..probe_count(step, size) {
         let offset = probe_offset(number, step, size);

@@ -1,8 +1,9 @@
 //! The offset at which an OPL file is cut at an object, so that each of several runs reads only its slice of the file.
 ghost use Rattle.std.specs.Prelude.{IfOk, IfErr};
 ghost use Rattle.osm_files.specs.Fault.{IsOfFile};
-ghost use Rattle.osm_files.specs.Lines.{IsDeviceFault};
-ghost use Rattle.osm_mirror.specs.CutOffset.{IsCutOf, BeginsLinesOf, IsCutRefusal, IsFirstUnder, BeginsAs};
+ghost use Rattle.osm_files.specs.FileRuns.{IsReadFailure};
+ghost use Rattle.osm_mirror.specs.CutOffset.{IsCutOf, BeginsLinesOf, IsCutRefusal, IsSearchRefusal};
+ghost use Rattle.osm_mirror.specs.CutOffset.{IsFirstUnder, BeginsAs};
 
 use opl_line::OplReason;
 use osm_files::{Broken, Fault, ReadAt, Reason, first_version, line_start};
@@ -10,8 +11,9 @@ use osm_merge::Object;
 use std::alloc::Global;
 
 /// The offset at which a sorted OPL file is cut at `bound`. The lines before it have the versions whose objects are
-/// below `bound`, and the lines from it on have the others. It is 0, the file's length, or the offset after the end of
-/// a line. The search halves a range of offsets: it reads about 30 lines of a file of 1 GB.
+/// below `bound`, and the lines from it on have the others. It is 0 or the offset after a line: the first such offset
+/// from which on the first version isn't below `bound`. So comments between two versions come after the cut. The search
+/// halves a range of offsets: it reads about 30 lines of a file of 1 GB.
 ///
 /// For a file that isn't sorted, it is some offset at which a line begins, or the file's length.
 ///
@@ -27,7 +29,7 @@ pub fn cut_offset<F: ReadAt>(
 ) -> Result<u64, Fault>
     ensures cut { IfOk result (IsCutOf (F.bytes file.now) bound) }
     ensures begins { IfOk result (BeginsLinesOf (F.bytes file.now)) }
-    ensures refused { IfErr result (IsCutRefusal (F.bytes file.now)) }
+    ensures refused { IfErr result (IsCutRefusal (F.fails file.now) (F.bytes file.now)) }
     ensures number { IfErr result (IsOfFile input) }
 {
     let mut low = 0_u64;
@@ -61,7 +63,7 @@ fn is_first_below<F: ReadAt>(
     bound: Object,
 ) -> Result<bool, Fault>
     ensures below { IfOk result (IsFirstUnder (F.bytes file.now) bound offset) }
-    ensures refused { IfErr result (IsCutRefusal (F.bytes file.now)) }
+    ensures refused { IfErr result (IsSearchRefusal (F.fails file.now) (F.bytes file.now) offset) }
     ensures number { IfErr result (IsOfFile input) }
 {
     match first_version(alloc, file, input, offset)? {
@@ -73,7 +75,7 @@ fn is_first_below<F: ReadAt>(
 /// Whether the bytes of a file from `offset` on begin as an o5 file does. No line of an OPL file begins so.
 pub(crate) fn begins_as_o5<F: ReadAt>(file: &F, input: usize, offset: u64) -> Result<bool, Fault>
     ensures begins { IfOk result (BeginsAs (F.bytes file.now) offset) }
-    ensures refused { IfErr result IsDeviceFault }
+    ensures refused { IfErr result (IsReadFailure (F.fails file.now)) }
     ensures number { IfErr result (IsOfFile input) }
 {
     let mut byte = [0u8; 1];

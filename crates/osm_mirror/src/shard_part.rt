@@ -1,9 +1,11 @@
 //! The part of a file that a run for a shard reads.
-ghost use Rattle.std.specs.Prelude.{◌≡◌, ◌<◌, length, IfOk, IfErr, IfSome};
+ghost use Rattle.std.specs.Prelude.{◌≡◌, ◌<◌, true, length, IfOk, IfErr, IfSome};
 ghost use Rattle.osm_files.specs.Fault.{IsOfFile};
-ghost use Rattle.osm_files.specs.Lines.{IsDeviceFault};
+ghost use Rattle.osm_files.specs.FileRuns.{IsReadFailure};
+ghost use Rattle.osm_merge.specs.Slice.{is_ascending};
 ghost use Rattle.osm_mirror.specs.CutOffset.{IsCutRefusal};
 ghost use Rattle.osm_mirror.specs.ShardPart.{IsOplSize, BeginsAtOf, EndsAtOf, IsPartOf};
+ghost use Rattle.osm_mirror.specs.ShardRefusal.{IsFileRefusal};
 
 use crate::cut::{begins_as_o5, cut_offset};
 use osm_files::{Broken, Fault, ReadAt, Reason, SortedRun};
@@ -24,7 +26,7 @@ pub(crate) struct FilePart {
 /// The size of a file if it is OPL, or none if it is o5.
 pub(crate) fn opl_size<F: ReadAt>(file: &F, input: usize) -> Result<Option<u64>, Fault>
     ensures size { IfOk result (IsOplSize (F.bytes file.now)) }
-    ensures refused { IfErr result IsDeviceFault }
+    ensures refused { IfErr result (IsReadFailure (F.fails file.now)) }
     ensures number { IfErr result (IsOfFile input) }
 {
     if begins_as_o5(file, input, 0)? {
@@ -37,7 +39,7 @@ pub(crate) fn opl_size<F: ReadAt>(file: &F, input: usize) -> Result<Option<u64>,
 /// The size of a file.
 fn size_of<F: ReadAt>(file: &F, input: usize) -> Result<u64, Fault>
     ensures size { IfOk result (λ size. IfSome (F.bytes file.now) (λ all. size ≡ length all)) }
-    ensures refused { IfErr result IsDeviceFault }
+    ensures refused { IfErr result (IsReadFailure (F.fails file.now)) }
     ensures number { IfErr result (IsOfFile input) }
 {
     match file.size() {
@@ -51,14 +53,17 @@ fn size_of<F: ReadAt>(file: &F, input: usize) -> Result<u64, Fault>
 ///
 /// # Errors
 ///
-/// `Unsorted` at 0 if the lines within `span` would end before they begin; or the fault of a search for an offset.
+/// `Unsorted` at 0 if the lines within `span` would end before they begin, which is so in an unsorted file only; or the
+/// fault of a search for an offset.
 pub(crate) fn part_of<F: ReadAt>(
     alloc: Global,
     file: &F,
     input: usize,
     span: Span,
 ) -> Result<FilePart, Fault>
+    requires ascends { is_ascending span ≡ true }
     ensures part { IfOk result (IsPartOf span (F.bytes file.now)) }
+    ensures refused { IfErr result (IsFileRefusal (F.fails file.now) (F.bytes file.now)) }
     ensures number { IfErr result (IsOfFile input) }
 {
     let size = size_of(file, input)?;
@@ -95,7 +100,7 @@ fn begin<F: ReadAt>(
     bound: Option<Object>,
 ) -> Result<u64, Fault>
     ensures begins { IfOk result (BeginsAtOf (F.bytes file.now) bound) }
-    ensures refused { IfErr result (IsCutRefusal (F.bytes file.now)) }
+    ensures refused { IfErr result (IsCutRefusal (F.fails file.now) (F.bytes file.now)) }
     ensures number { IfErr result (IsOfFile input) }
 {
     match bound {
@@ -114,7 +119,7 @@ fn end<F: ReadAt>(
 ) -> Result<u64, Fault>
     requires size { IfSome (F.bytes file.now) (λ all. size ≡ length all) }
     ensures ends { IfOk result (EndsAtOf (F.bytes file.now) bound) }
-    ensures refused { IfErr result (IsCutRefusal (F.bytes file.now)) }
+    ensures refused { IfErr result (IsCutRefusal (F.fails file.now) (F.bytes file.now)) }
     ensures number { IfErr result (IsOfFile input) }
 {
     match bound {

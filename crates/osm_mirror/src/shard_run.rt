@@ -1,16 +1,20 @@
 //! The run for one of several shards of an output. From the same files all runs find the same shards, each by itself.
-ghost use Rattle.std.specs.Prelude.{◌≡◌, ◌<◌, ◌≤◌, ◌^◌, true, false, List, ℕ, IfOk, OnOk, IfSome};
+ghost use Rattle.std.specs.Prelude.{◌≡◌, ◌⊎◌, ◌+◌, ◌<◌, ◌≤◌, ◌^◌, true, List, ℕ, length, slice_get, Some, IfOk, IfErr};
+ghost use Rattle.std.specs.Prelude.{OnOk, IfSome};
 ghost use Rattle.osm_files.specs.Change.{change_of};
+ghost use Rattle.osm_files.specs.Fault.{memory_fault};
 ghost use Rattle.osm_files.specs.FileInput.{FramedGives};
 ghost use Rattle.osm_files.specs.Held.{HoldsSorted};
 ghost use Rattle.osm_files.specs.Output.{IsGoodThroughout};
 ghost use Rattle.osm_model.specs.Pairwise.{Pairwise};
 ghost use Rattle.osm_model.specs.VersionSet.{VersionSet};
 ghost use Rattle.osm_merge.specs.Merged.{Grows};
-ghost use Rattle.osm_merge.specs.Slice.{is_ascending};
-ghost use Rattle.osm_mirror.specs.Bounds.{is_opl, shard_span, total_weight};
-ghost use Rattle.osm_mirror.specs.Probes.{HaveBytes, AreReadable, Ascend};
-ghost use Rattle.osm_mirror.specs.ShardPart.{IsPartOf, GivesTheSlice};
+ghost use Rattle.osm_merge.specs.Slice.{is_ascending, is_ascending_between};
+ghost use Rattle.osm_mirror.specs.Bounds.{shard_span, total_weight};
+ghost use Rattle.osm_mirror.specs.Probes.{HaveBytes, Ascend};
+ghost use Rattle.osm_mirror.specs.ShardPart.{IsPartOf, IsInputOf, AreInputsOf};
+ghost use Rattle.osm_mirror.specs.ShardRefusal.{IsFileRefusal, IsFaultOfFile, IsFirstFault, AreRefused, RefusesSpan};
+ghost use Rattle.osm_mirror.specs.ShardRefusal.{RefusesShardRun, fault_in_part};
 ghost use Rattle.osm_mirror.specs.ShardRun.{IsShardRun, IsSpanRun};
 ghost use Rattle.osm_mirror.specs.ShardSpan.{bound_after, span_of_number};
 
@@ -19,7 +23,7 @@ use crate::check::run_check_sorted;
 use crate::shard::Shard;
 use crate::shard_part::{FilePart, part_of};
 use crate::slice::{Slice, SliceFile, run_slice};
-use osm_files::{Fault, Format, FramedExtent, Output, ReadAt, Reason, SortedRun};
+use osm_files::{Broken, Fault, Format, FramedExtent, Output, ReadAt, Reason, SortedRun};
 use osm_merge::{Counts, Object, Progress, Selection, Span};
 use std::alloc::Global;
 
@@ -49,9 +53,10 @@ pub struct ShardRun {
 /// # Errors
 ///
 /// The files are numbered from 0, and the number of the output is the number of files. If a file that is read can't be
-/// read or isn't sorted, the fault has its number, the reason and the offset in the file. The offset of `Unsorted` is
-/// that of the file's first version that is out of order. `WriteFault` if the output failed, `TooLong` if the OPL files
-/// together have 2^62 bytes or more, `Memory` if memory ran out.
+/// read or isn't sorted, the fault has its number, the reason and the offset in the file. If the file's bytes aren't a
+/// sorted file, this is their first fault, wherever it is, as without shards: the file is read once more up to there.
+/// `WriteFault` if the output failed, `TooLong` if the OPL files together have 2^62 bytes or more, and `Memory` if
+/// memory ran out.
 pub fn run_shard<F: ReadAt, W: Output, P: Progress>(
     alloc: Global,
     run: ShardRun,
@@ -60,39 +65,20 @@ pub fn run_shard<F: ReadAt, W: Output, P: Progress>(
     progress: &mut P,
 ) -> Result<Counts, Fault>
     ensures written { IfOk result (λ counts. (all : List (List ℕ)) (held : List VersionSet)
-        → AreReadable (λ file. F.bytes file.now) (λ file. F.fails file.now) files.now all
-        → Pairwise HoldsSorted all held
+        → HaveBytes (λ file. F.bytes file.now) files.now all → Pairwise HoldsSorted all held
         → IsShardRun run all held (change_of W.Output out.old out.new) counts) }
+    ensures refused { IfErr result (RefusesShardRun (λ file. F.bytes file.now) (λ file. F.fails file.now) W.Output run
+        files.now out.old out.new) }
     ensures kept { Grows (change_of W.Output out.old out.new) }
     ensures good { OnOk result (IsGoodThroughout (change_of W.Output out.old out.new)) }
 {
-    match write_shard(alloc, run, files, out, progress) {
+    let span = match span_of_shard(alloc, files, run.shard) {
+        Ok(span) => span,
+        Err(fault) => return Err(first_fault(alloc, files, fault)),
+    };
+    match write_span(alloc, run, span, files, out, progress) {
         Ok(counts) => Ok(counts),
-        Err(fault) => Err(at_first_unsorted(alloc, files, fault)),
-    }
-}
-
-/// Appends what a shard has. The offset of a fault `Unsorted` is some offset in its file.
-fn write_shard<F: ReadAt, W: Output, P: Progress>(
-    alloc: Global,
-    run: ShardRun,
-    files: &[&F],
-    out: &mut W,
-    progress: &mut P,
-) -> Result<Counts, Fault>
-    ensures written { IfOk result (λ counts. (all : List (List ℕ)) (held : List VersionSet)
-        → AreReadable (λ file. F.bytes file.now) (λ file. F.fails file.now) files.now all
-        → Pairwise HoldsSorted all held
-        → IsShardRun run all held (change_of W.Output out.old out.new) counts) }
-    ensures kept { Grows (change_of W.Output out.old out.new) }
-    ensures good { OnOk result (IsGoodThroughout (change_of W.Output out.old out.new)) }
-{
-    match span_of_shard(alloc, files, run.shard)? {
-        Some(span) => write_span(alloc, run, span, files, out, progress),
-        None => match write_span(alloc, run, ALL_OBJECTS, &files[..0], out, progress) {
-            Ok(counts) => Ok(counts),
-            Err(fault) => Err(Fault::at(files.len(), fault.place, fault.reason)),
-        },
+        Err(fault) => Err(first_fault(alloc, files, fault)),
     }
 }
 
@@ -105,6 +91,9 @@ fn span_of_shard<F: ReadAt>(
     ensures span { IfOk result (λ span. (all : List (List ℕ)) (held : List VersionSet)
         → HaveBytes (λ file. F.bytes file.now) files.now all → Pairwise HoldsSorted all held
         → span ≡ shard_span shard.number shard.count all) }
+    ensures ascends { IfOk result (λ span. IfSome span (λ span. is_ascending span ≡ true)) }
+    ensures refused { IfErr result (AreRefused (λ file. F.bytes file.now) (λ file. F.fails file.now) IsFileRefusal
+        files.now) }
 {
     let found = find_objects(alloc, files, shard.count)?;
     Ok(span_between(found.as_slice(), shard))
@@ -113,7 +102,8 @@ fn span_of_shard<F: ReadAt>(
 /// The span of a shard between the bounds that objects determine. The objects ascend.
 fn span_between(found: &[Found], shard: Shard) -> Option<Span>
     requires ascend { Ascend found.now }
-    ensures { total_weight found.now < 2 ^ 62 → result ≡ span_of_number shard.number shard.count found.now }
+    ensures span { total_weight found.now < 2 ^ 62 → result ≡ span_of_number shard.number shard.count found.now }
+    ensures ascends { IfSome result (λ span. is_ascending span ≡ true) }
 {
     let to = bound_after(found, shard);
     if shard.number == 1 {
@@ -122,9 +112,20 @@ fn span_between(found: &[Found], shard: Shard) -> Option<Span>
     match bound(found, shard.number - 1, shard.count) {
         Some(from) => Some(Span {
             from: Some(from),
-            to,
+            to: not_below(from, to),
         }),
         None => None,
+    }
+}
+
+/// The upper bound `to`, or `from` if `to` is below it.
+fn not_below(from: Object, to: Option<Object>) -> Option<Object>
+    ensures ascends { is_ascending_between (Some from) result ≡ true }
+    ensures same { is_ascending_between (Some from) to ≡ true → result ≡ to }
+{
+    match to {
+        Some(to) if to.order(&from).is_lt() => Some(from),
+        _ => to,
     }
 }
 
@@ -140,47 +141,55 @@ fn bound_after(found: &[Found], shard: Shard) -> Option<Object>
     }
 }
 
-/// Appends what the files have within `span`.
+/// Appends what the files have within `span`, or what no files have if there is no span.
 fn write_span<F: ReadAt, W: Output, P: Progress>(
     alloc: Global,
     run: ShardRun,
-    span: Span,
+    span: Option<Span>,
     files: &[&F],
     out: &mut W,
     progress: &mut P,
 ) -> Result<Counts, Fault>
+    requires ascends { IfSome span (λ span. is_ascending span ≡ true) }
     ensures written { IfOk result (λ counts. (all : List (List ℕ)) (held : List VersionSet)
-        → AreReadable (λ file. F.bytes file.now) (λ file. F.fails file.now) files.now all
-        → Pairwise HoldsSorted all held → is_ascending span ≡ true
+        → HaveBytes (λ file. F.bytes file.now) files.now all → Pairwise HoldsSorted all held
         → IsSpanRun run.selection span held run.format (change_of W.Output out.old out.new) counts) }
+    ensures refused { IfErr result (RefusesSpan (λ file. F.bytes file.now) (λ file. F.fails file.now) IsFileRefusal
+        run.selection run.format (λ _. span) files.now (change_of W.Output out.old out.new)) }
     ensures kept { Grows (change_of W.Output out.old out.new) }
     ensures good { OnOk result (IsGoodThroughout (change_of W.Output out.old out.new)) }
 {
     let mut parts = Vec::new(alloc);
     let inputs = open_parts(alloc, span, files, &mut parts)?;
     let slice = Slice {
-        span,
+        span: span.unwrap_or(ALL_OBJECTS),
         selection: run.selection,
     };
     progress.begin();
     match run_slice(alloc, slice, inputs, run.format, out, progress) {
         Ok(counts) => Ok(counts),
-        Err(fault) => Err(fault_of_file(parts.as_slice(), fault)),
+        Err(fault) => Err(fault_of_file(parts.as_slice(), files.len(), fault)),
     }
 }
 
-/// The parts of the files within `span`, as inputs, which are appended to `parts`, too.
+/// The parts of the files within `span`, as inputs, which are appended to `parts`, too. Without a span there are none.
 fn open_parts<'f, F: ReadAt>(
     alloc: Global,
-    span: Span,
+    span: Option<Span>,
     files: &[&'f F],
     parts: &mut Vec<FilePart>,
 ) -> Result<Vec<SliceFile<FramedExtent<'f, F>>>, Fault>
-    ensures { IfOk result (λ inputs. (all : List (List ℕ))
-        → AreReadable (λ file. F.bytes file.now) (λ file. F.fails file.now) files.now all
-        → Pairwise (GivesTheSlice (FramedGives F.fails F.bytes) span) all inputs.items) }
+    requires ascends { IfSome span (λ span. is_ascending span ≡ true) }
+    ensures inputs { IfOk result (λ inputs. AreInputsOf (λ file. F.bytes file.now) (λ file. F.fails file.now)
+        (FramedGives F.fails F.bytes) span files.now inputs.items) }
+    ensures parts { IfOk result (λ inputs. length parts.new.items ≡ length parts.old.items + length inputs.items) }
+    ensures refused { IfErr result (AreRefused (λ file. F.bytes file.now) (λ file. F.fails file.now) IsFileRefusal
+        files.now) }
 {
     let mut inputs = Vec::new(alloc);
+    let Some(span) = span else {
+        return Ok(inputs);
+    };
     'files: for (number, file) in files.iter().enumerate() {
         let part = part_of(alloc, *file, number, span)?;
         parts.push(part)?;
@@ -196,8 +205,8 @@ fn open_part<'f, F: ReadAt>(
     part: FilePart,
 ) -> SliceFile<FramedExtent<'f, F>>
     requires part { IsPartOf span (F.bytes file.now) part }
-    ensures { IfSome (F.bytes file.now) (λ all. (is_opl all ≡ false → F.fails file.now → ⊥)
-        → GivesTheSlice (FramedGives F.fails F.bytes) span all result) }
+    ensures { IsInputOf (λ file. F.bytes file.now) (λ file. F.fails file.now) (FramedGives F.fails F.bytes) span
+        file.entry result }
 {
     SliceFile {
         reader: FramedExtent::of_run(file, part.size, part.run),
@@ -205,40 +214,50 @@ fn open_part<'f, F: ReadAt>(
     }
 }
 
-/// The fault of an input as the fault of its file. Its place is the offset in the file.
-fn fault_of_file(parts: &[FilePart], fault: Fault) -> Fault {
+/// The fault of an input as the fault of its file, whose place is the offset in the file. A fault of the output gets
+/// the number of files.
+fn fault_of_file(parts: &[FilePart], files: usize, fault: Fault) -> Fault
+    ensures { result ≡ fault_in_part fault files (slice_get parts.now fault.input) }
+{
     match parts.get(fault.input) {
         Some(part) => Fault::at(
             fault.input,
             part.run.offset_in_file(fault.place),
             fault.reason,
         ),
-        None => fault,
+        None => Fault::at(files, fault.place, fault.reason),
     }
 }
 
-/// The fault, with the offset of its file's first version that is out of order if its reason is `Unsorted`.
-fn at_first_unsorted<F: ReadAt>(alloc: Global, files: &[&F], fault: Fault) -> Fault {
-    if fault.reason != Reason::Unsorted {
+/// The first fault of the file that a fault names, if it isn't a sorted file; otherwise the fault itself.
+///
+/// Why: a part of a file shows some fault of the file, and not the first one.
+fn first_fault<F: ReadAt>(alloc: Global, files: &[&F], fault: Fault) -> Fault
+    ensures file { AreRefused (λ file. F.bytes file.now) (λ file. F.fails file.now) IsFileRefusal files.now fault
+        → AreRefused (λ file. F.bytes file.now) (λ file. F.fails file.now) IsFaultOfFile files.now result }
+    ensures same { (fault ≡ memory_fault) ⊎ (length files.now ≤ fault.input) → result ≡ fault }
+{
+    if fault == Fault::memory() {
         return fault;
     }
     match files.get(fault.input) {
-        Some(file) => Fault::at(
-            fault.input,
-            first_unsorted(alloc, *file).unwrap_or(fault.place),
-            fault.reason,
-        ),
+        Some(file) => first_fault_of(alloc, *file, fault),
         None => fault,
     }
 }
 
-/// The offset of the first version of a file that is out of order, or none if there is none.
-fn first_unsorted<F: ReadAt>(alloc: Global, file: &F) -> Option<u64> {
-    let size = file.size().ok()?;
+/// The first fault of a file, or `fault` if the whole file is sorted.
+fn first_fault_of<F: ReadAt>(alloc: Global, file: &F, fault: Fault) -> Fault
+    ensures { IsFirstFault (F.fails file.now) (F.bytes file.now) fault result }
+{
+    let size = match file.size() {
+        Ok(size) => size,
+        Err(Broken) => return Fault::at(fault.input, 0, Reason::ReadFault),
+    };
     let whole = FramedExtent::of_run(file, size, SortedRun::whole());
     match run_check_sorted(alloc, whole) {
-        Err(fault) if fault.reason == Reason::Unsorted => Some(fault.place),
-        _ => None,
+        Ok(_) => fault,
+        Err(first) => Fault::at(fault.input, first.place, first.reason),
     }
 }
 

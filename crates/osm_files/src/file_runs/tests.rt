@@ -62,7 +62,14 @@ fn runs_are_found(rt: HostRuntime) {
         (
             b"n2 v1 dD\nn3 v1\nn1 v1 dD\n",
             9,
-            "file 3, byte 9: NoLocation\n",
+            "0 false false\nfile 0, byte 9: NoLocation\nfile 0, byte 0: Failed\nfile 0, byte 0: Failed\n\
+            15 false false\nn1 v1 dD c0 t i0 u T x y\nend\nend\nend\n",
+        ),
+        (
+            b"n3 v1\r\nn2 dD v1\r\nn2 v1 u\xff",
+            9,
+            "0 false false\nfile 0, byte 0: NoLocation\nfile 0, byte 0: Failed\nfile 0, byte 0: Failed\n\
+            7 false false\nfile 0, byte 10: NotUtf8\nfile 0, byte 0: Failed\nfile 0, byte 0: Failed\n",
         ),
         (
             DATA_SETS,

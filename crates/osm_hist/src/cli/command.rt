@@ -14,14 +14,6 @@ const TIME_FILTER_USAGE: &str =
     "osm_hist time-filter [OPTIONS] --output <OUT> <FILE> <TIME> [TIME]\n       \
     osm_hist time-filter [OPTIONS] --output <OUT> --files0-from <LIST> <TIME> [TIME]";
 
-/// The end of the program's help.
-const PROGRAM: &str = "Without a command, standard input is merged to standard output, as OPL.\n\n\
-    Memory: files that are sorted are read one version at a time, however large they are.";
-
-/// The end of the help of `merge`: memory and an example.
-const MERGE: &str = "Memory: each file is read one version at a time.\n\n\
-    Example: osm_hist merge --output all.opl monday.opl tuesday.o5m";
-
 /// The end of the help of a command that takes files in any order: memory and an example.
 macro_rules! any_order_help {
     ($example:literal) => {
@@ -33,23 +25,6 @@ macro_rules! any_order_help {
     };
 }
 
-/// The end of the help of `check`: several files, memory and an example.
-const CHECK: &str =
-    "Of several files each gets a line that begins with its name; where one is refused, the others are still \
-    checked.\n\n\
-    Memory: a sorted file is read one version at a time. A file that isn't sorted is held in memory, and so is a \
-    pipe, which can't be read twice. With --sorted none is held.\n\n\
-    Example: osm_hist check download.o5m";
-
-/// The end of the help of `plan`: the lines of a plan, memory and an example.
-const PLAN: &str =
-    "PLAN is a text of lines. The lines `full` and `latest` come first, one for each mirror, numbered from 0; \
-    then `take M FILE`, `pass M N FORMAT` and `restart M FORMAT`; then `write M FORMAT FILE`. For example, two \
-    mirrors of which one takes a file and passes it on:\n\nlatest\nfull\ntake 0 a.opl\npass 0 1 o5c\n\
-    write 1 opl x.opl\n\n\
-    Memory: all files that are taken and all that the mirrors hold are in memory.\n\n\
-    Example: osm_hist plan mirrors.plan";
-
 /// A command, or out of memory.
 type Made<'a> = Result<Command<'a>, AllocError>;
 
@@ -58,7 +33,11 @@ pub(super) fn command<'a>(alloc: Global) -> Made<'a> {
     Command::new(alloc, "osm_hist")
         .about("Merges, cuts and checks files of OpenStreetMap histories")
         .version(VERSION)
-        .after_help(PROGRAM)
+        .override_usage("osm_hist [COMMAND]")
+        .after_help(
+            "Without a command, standard input is merged to standard output, as OPL.\n\n\
+            Memory: files that are sorted are read one version at a time, however large they are.",
+        )
         .no_binary_name(true)
         .subcommand_required(true)
         .bin_name("osm_hist")?
@@ -73,9 +52,12 @@ pub(super) fn command<'a>(alloc: Global) -> Made<'a> {
 fn merge_command<'a>(alloc: Global) -> Made<'a> {
     let command = Command::new(alloc, "merge")
         .about("Merges sorted files into one")
-        .after_help(MERGE);
-    let help = "The files to be merged, each sorted, in OPL, o5m or o5c; - is standard input";
-    with_files(alloc, with_output(alloc, command)?, help)
+        .after_help(
+            "Memory: each file is read one version at a time.\n\n\
+        Example: osm_hist merge --output all.opl monday.opl tuesday.o5m",
+        );
+    let files = "The files to be merged, each sorted, in OPL, o5m or o5c; - is standard input";
+    with_input(alloc, with_output(alloc, command)?)?.arg(files_arg(alloc, files)?)
 }
 
 fn apply_command<'a>(alloc: Global) -> Made<'a> {
@@ -84,14 +66,14 @@ fn apply_command<'a>(alloc: Global) -> Made<'a> {
         .after_help(any_order_help!(
             "apply --output today.o5m --format o5m yesterday.o5m changes.o5c"
         ));
-    let deletions =
-        arg!(in alloc; --"with-deletions" "Writes the newest version of each object, deletions included");
-    let command = with_output(alloc, command)?
+    let deletions = "Writes the newest version of each object, deletions included";
+    let deletions = arg!(in alloc; --"with-deletions").help(deletions);
+    let files = "The files and changes, in OPL, o5m or o5c; - is standard input";
+    with_input(alloc, with_output(alloc, command)?)?
         .arg(deletions.conflicts_with("with-history")?)?
         .arg(arg!(in alloc; --"with-history" "Writes all versions, deletions included"))?
-        .arg(sorted_arg(alloc))?;
-    let help = "The files and changes, in OPL, o5m or o5c; - is standard input";
-    with_files(alloc, command, help)
+        .arg(sorted_arg(alloc))?
+        .arg(files_arg(alloc, files)?)
 }
 
 fn time_filter_command<'a>(alloc: Global) -> Made<'a> {
@@ -101,36 +83,38 @@ fn time_filter_command<'a>(alloc: Global) -> Made<'a> {
         .after_help(any_order_help!(
             "time-filter --output new-year.opl history.opl 2020-01-01T00:00:00Z"
         ));
+    let file = "The file of a history, in OPL, o5m or o5c; - is standard input";
     let time = arg!(in alloc; time: [TIME] "The moment, as 2014-05-06T07:08:09Z");
-    let end =
-        arg!(in alloc; end: [TIME] "The end of the period that begins then: all versions of that period are written");
-    with_output(alloc, command)?
+    let end = "The end of the period that begins then: all versions of that period are written";
+    with_input(alloc, with_output(alloc, command)?)?
         .arg(sorted_arg(alloc))?
-        .arg(list_arg(alloc))?
-        .arg(
-            arg!(in alloc; files: <FILE> "The file of a history, in OPL, o5m or o5c; - is standard input"),
-        )?
+        .arg(arg!(in alloc; files: <FILE>).help(file))?
         .arg(time.required_unless_present(LIST)?)?
-        .arg(end.conflicts_with(LIST)?)
+        .arg(arg!(in alloc; end: [TIME]).help(end).conflicts_with(LIST)?)
 }
 
 fn sort_command<'a>(alloc: Global) -> Made<'a> {
     let command = Command::new(alloc, "sort")
         .about("Sorts files in any order into one")
         .after_help(any_order_help!("sort --output sorted.opl unsorted.opl"));
-    let command = with_output(alloc, command)?.arg(sorted_arg(alloc))?;
-    let help = "The files to be sorted, in OPL, o5m or o5c; - is standard input";
-    with_files(alloc, command, help)
+    let files = "The files to be sorted, in OPL, o5m or o5c; - is standard input";
+    with_input(alloc, with_output(alloc, command)?)?
+        .arg(sorted_arg(alloc))?
+        .arg(files_arg(alloc, files)?)
 }
 
 fn check_command<'a>(alloc: Global) -> Made<'a> {
     let command = Command::new(alloc, "check")
         .about("Prints a file's format, its versions and objects, and whether it is sorted")
-        .after_help(CHECK)
-        .arg(sorted_arg(alloc))?;
-    let command = with_ends(alloc, command)?.arg(hints_arg(alloc))?;
-    let help = "The files to be checked, in OPL, o5m or o5c; - is standard input";
-    with_files(alloc, command, help)
+        .after_help(
+            "Of several files each gets a line that begins with its name; where one is refused, the others are \
+            still checked.\n\n\
+            Memory: a sorted file is read one version at a time. A file that isn't sorted is held in memory, and so \
+            is a pipe, which can't be read twice. With --sorted none is held.\n\n\
+            Example: osm_hist check download.o5m",
+        );
+    let files = "The files to be checked, in OPL, o5m or o5c; - is standard input";
+    with_input(alloc, command.arg(sorted_arg(alloc))?)?.arg(files_arg(alloc, files)?)
 }
 
 fn plan_command<'a>(alloc: Global) -> Made<'a> {
@@ -138,7 +122,14 @@ fn plan_command<'a>(alloc: Global) -> Made<'a> {
         .about(
             "Runs a plan: mirrors take files and pass them on, and what they hold in the end is written",
         )
-        .after_help(PLAN)
+        .after_help(
+            "PLAN is a text of lines. The lines `full` and `latest` come first, one for each mirror, numbered from 0; \
+            then `take M FILE`, `pass M N FORMAT` and `restart M FORMAT`; then `write M FORMAT FILE`. For example, two \
+            mirrors of which one takes a file and passes it on:\n\nlatest\nfull\ntake 0 a.opl\npass 0 1 o5c\n\
+            write 1 opl x.opl\n\n\
+            Memory: all files that are taken and all that the mirrors hold are in memory.\n\n\
+            Example: osm_hist plan mirrors.plan",
+        )
         .arg(arg!(in alloc; plan: <PLAN> "The file of the plan"))?
         .arg(arg!(in alloc; --strict "Writes nothing if an event is refused"))?
         .arg(hints_arg(alloc))
@@ -148,10 +139,12 @@ fn plan_command<'a>(alloc: Global) -> Made<'a> {
 fn with_output<'a>(alloc: Global, command: Command<'a>) -> Made<'a> {
     let output =
         "The file to be written; - is standard output, and a pipe or a device is written as it is";
-    let format = arg!(in alloc; -f --format <FORMAT> "Its format, whatever its name ends in");
     let shard =
         "Writes part K of N; all parts as OPL, in sequence, are the output; the files are sorted";
-    let command = command
+    let progress = "Reports on standard error, while it runs, how many megabytes were read";
+    let summary = "Reports on standard error, in one line after success, what was read and written";
+    let format = arg!(in alloc; -f --format <FORMAT> "Its format, whatever its name ends in");
+    command
         .arg(
             arg!(in alloc; -o --output <OUT>)
                 .required(true)
@@ -162,40 +155,28 @@ fn with_output<'a>(alloc: Global, command: Command<'a>) -> Made<'a> {
                 .value_parser(FORMAT_NAMES.as_slice())
                 .default_value("opl"),
         )?
-        .arg(arg!(in alloc; --shard <"K/N">).help(shard))?;
-    with_ends(alloc, command)?
+        .arg(arg!(in alloc; --shard <"K/N">).help(shard))?
         .arg(arg!(in alloc; --fsync "Puts the file on the disk before it gets its name"))?
-        .arg(
-            arg!(in alloc; --progress "Reports on standard error, while it runs, how much was read and written"),
-        )?
-        .arg(
-            arg!(in alloc; --summary "Reports on standard error, in one line after success, what was read and written"),
-        )?
+        .arg(arg!(in alloc; --progress).help(progress))?
+        .arg(arg!(in alloc; --summary).help(summary))
+}
+
+/// Adds the options of a command that reads files.
+fn with_input<'a>(alloc: Global, command: Command<'a>) -> Made<'a> {
+    let whole = "Refuses an OPL file whose last line has no line feed, since it may be cut";
+    let ended = "Refuses OPL from a pipe that doesn't end with the line \"# end\"";
+    let list = "Reads the names of the files from LIST, each ended by NUL; - is standard input";
+    command
+        .arg(arg!(in alloc; --whole).help(whole))?
+        .arg(arg!(in alloc; --ended).help(ended))?
+        .arg(arg!(in alloc; --"files0-from" <LIST>).help(list))?
         .arg(hints_arg(alloc))
 }
 
-/// Adds the options for the ends of files.
-fn with_ends<'a>(alloc: Global, command: Command<'a>) -> Made<'a> {
-    command
-        .arg(
-            arg!(in alloc; --whole "Refuses an OPL file whose last line has no line feed, since it may be cut"),
-        )?
-        .arg(
-            arg!(in alloc; --ended "Refuses OPL from a pipe that doesn't end with the line \"# end\""),
-        )
-}
-
-/// Adds the arguments for the input files, or for a list of them.
-fn with_files<'a>(alloc: Global, command: Command<'a>, help: &'a str) -> Made<'a> {
+/// The input files, which a list may name.
+fn files_arg<'a>(alloc: Global, help: &'a str) -> Result<Arg<'a>, AllocError> {
     let files = arg!(in alloc; files: [FILE] ...).help(help);
-    command
-        .arg(list_arg(alloc))?
-        .arg(files.required_unless_present(LIST)?.conflicts_with(LIST)?)
-}
-
-fn list_arg<'a>(alloc: Global) -> Arg<'a> {
-    let help = "Reads the names of the files from LIST, each ended by NUL; - is standard input";
-    arg!(in alloc; --"files0-from" <LIST>).help(help)
+    files.required_unless_present(LIST)?.conflicts_with(LIST)
 }
 
 fn sorted_arg<'a>(alloc: Global) -> Arg<'a> {

@@ -5,14 +5,11 @@ use std::{fmt, io, str};
 
 /// A text whose control characters are printed as escapes.
 #[derive(Clone, Copy, Debug)]
-pub(super) struct Escaped<'a> {
-    /// The text.
-    pub(super) text: &'a str,
-}
+pub(super) struct Escaped<'a>(pub(super) &'a str);
 
 impl Display for Escaped<'_> {
     fn fmt<W: fmt::Write>(&self, f: &mut Formatter<W>) -> fmt::Result {
-        for c in self.text.chars() {
+        for c in self.0.chars() {
             write_escaped(f, c)?;
         }
         Ok(())
@@ -36,25 +33,23 @@ fn write_escaped<W: fmt::Write>(f: &mut Formatter<W>, c: char) -> fmt::Result {
 
 /// A name as an argument for a shell, quoted if it has to be. A name that begins with `-` is no option.
 #[derive(Clone, Copy, Debug)]
-pub(super) struct Quoted<'a> {
-    /// The name.
-    pub(super) name: &'a str,
-}
+pub(super) struct Quoted<'a>(pub(super) &'a str);
 
 impl Display for Quoted<'_> {
     fn fmt<W: fmt::Write>(&self, f: &mut Formatter<W>) -> fmt::Result {
-        let folder = if self.name.starts_with('-') { "./" } else { "" };
-        if !self.name.is_empty() && self.name.chars().all(is_plain) {
-            return write!(f, "{folder}{}", self.name);
+        let name = self.0;
+        let folder = if name.starts_with('-') { "./" } else { "" };
+        if !name.is_empty() && name.chars().all(is_plain) {
+            return write!(f, "{folder}{}", name);
         }
-        let has_controls = self.name.chars().any(is_control);
+        let has_controls = name.chars().any(is_control);
         let (open, quote) = if has_controls {
             ("$'", "\\'")
         } else {
             ("'", "'\\''")
         };
         write!(f, "{open}{folder}")?;
-        for c in self.name.chars() {
+        for c in name.chars() {
             match c {
                 '\'' => write!(f, "{quote}")?,
                 '\\' if has_controls => write!(f, "\\\\")?,
@@ -74,24 +69,21 @@ fn is_plain(c: char) -> bool {
 /// A writer to a terminal that escapes the control characters of the text that it is given. A line feed that ends a
 /// write is a line's end.
 #[derive(Drop)]
-pub(super) struct EscapedOut<'o, O> {
-    /// The terminal.
-    pub(super) out: &'o mut O,
-}
+pub(super) struct EscapedOut<'o, O>(pub(super) &'o mut O);
 
 impl<O: io::Write> io::Write for EscapedOut<'_, O> {
     fn write(&mut self, bytes: &[u8]) -> io::Result<usize> {
         let Ok(text) = str::from_utf8(bytes) else {
-            return self.out.write(bytes);
+            return self.0.write(bytes);
         };
         match text.strip_suffix('\n') {
-            Some(line) => writeln!(self.out, "{}", Escaped { text: line })?,
-            None => write!(self.out, "{}", Escaped { text })?,
+            Some(line) => writeln!(self.0, "{}", Escaped(line))?,
+            None => write!(self.0, "{}", Escaped(text))?,
         }
         Ok(bytes.len())
     }
 
     fn flush(&mut self) -> io::Result<()> {
-        self.out.flush()
+        self.0.flush()
     }
 }

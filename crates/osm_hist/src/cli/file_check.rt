@@ -1,66 +1,49 @@
 //! Checks of files.
 use super::escape::EscapedOut;
-use super::files::{Opened, Stamp, input_name, open_arg};
-use super::input::{
-    Failure, NoCount, RegularInput, fault_at_end, refuse_changed, regular_input, stream_input,
-};
-use super::part::PartFile;
+use super::files::input_name;
+use super::input::{InputBytes, NoCount, OpenInput, Watch};
 use super::refusal::Refusal;
-use super::request::FileCheck;
+use super::request::{InputFiles, Request};
 use super::{hint, print};
-use osm_files::{Broken, Fault, FramedExtent, Input, ReadAt, Reason, SortedRun};
+use osm_files::{Fault, FramedExtent, Input, ReadAt, Reason, SortedRun};
 use osm_mirror::{CheckReport, run_check, run_check_sorted};
-use std::alloc::Global;
+use std::alloc::{AllocError, Global};
 use std::cell::Cell;
 use std::io::{IsTerminal, Read, Write};
-use std::rt::Files;
 
 /// Prints for each file its format, the numbers of its versions and objects, and whether it is sorted. After a refusal
-/// the check continues with the next file, unless standard output fails. Reports each refusal but the last, which it
-/// returns.
-pub(super) fn check_files<
-    'a,
-    R: Files + AllocGlobal,
-    I: Read + Drop,
-    O: Write + IsTerminal,
-    E: Write + IsTerminal,
->(
-    rt: &R,
-    check: &FileCheck<'a>,
+/// the check continues with the next file, unless standard output fails. Returns the status of
+/// the last refusal, or 0.
+pub(super) fn check_files<I: Read + Drop, O: Write + IsTerminal, E: Write + IsTerminal>(
+    rt: &HostRuntime,
+    request: &Request<'_>,
     mut input: Option<I>,
     out: &mut O,
     err: &mut E,
-) -> Result<(), Refusal<'a>>
-where
-    R::File: PartFile,
-{
-    let mut last = None;
-    for arg in &check.inputs.names {
-        let outcome = match report_of(rt, check, *arg, &mut input) {
-            Ok(report) => print_report(rt.alloc(), check, *arg, &report, out),
+    hints: bool,
+) -> u8 {
+    let files = &request.files;
+    let mut status = 0;
+    for name in &files.names {
+        let outcome = match report_of(rt, files, *name, request.sorted, &mut input) {
+            Ok(report) => print_report(rt.alloc(), files, *name, &report, out),
             Err(refusal) => Err(refusal),
         };
         if let Err(refusal) = outcome {
-            let cannot_print = matches!(refusal, Refusal::StandardOutput);
-            if let Some(refusal) = last.replace(refusal) {
-                hint::report(rt, &refusal, err, check.hints);
-            }
-            if cannot_print {
+            status = hint::report(rt, &refusal, err, hints);
+            if matches!(refusal, Refusal::StandardOutput) {
                 break;
             }
         }
     }
-    match last {
-        Some(refusal) => Err(refusal),
-        None => Ok(()),
-    }
+    status
 }
 
 /// Prints the report on a file. With several files the line begins with the file's name, whose control characters are
 /// escaped on a terminal.
 fn print_report<'a, O: Write + IsTerminal>(
     alloc: Global,
-    check: &FileCheck<'a>,
+    files: &InputFiles<'a>,
     arg: &'a str,
     report: &CheckReport,
     out: &mut O,
@@ -68,7 +51,7 @@ fn print_report<'a, O: Write + IsTerminal>(
     let order = if report.sorted { "sorted" } else { "unsorted" };
     let format = report.format.name();
     let (versions, objects) = (report.versions, report.objects);
-    let (name, mark) = if check.inputs.names.len() > 1 {
+    let (name, mark) = if files.names.len() > 1 {
         (input_name(arg), ": ")
     } else {
         ("", "")
@@ -77,66 +60,74 @@ fn print_report<'a, O: Write + IsTerminal>(
         "{name}{mark}{format}: {versions} versions, {objects} objects, {order}\n"
     )?;
     if out.is_terminal() {
-        print(&mut EscapedOut { out }, &line)
+        print(&mut EscapedOut(out), &line)
     } else {
         print(out, &line)
     }
 }
 
 /// Checks the file that `arg` names.
-fn report_of<'a, R: Files + AllocGlobal, I: Read + Drop>(
-    rt: &R,
-    check: &FileCheck<'a>,
+fn report_of<'a, I: Read + Drop>(
+    rt: &HostRuntime,
+    files: &InputFiles<'a>,
     arg: &'a str,
+    sorted: bool,
     input: &mut Option<I>,
-) -> Result<CheckReport, Refusal<'a>>
-where
-    R::File: PartFile,
-{
-    let failure: Failure = Cell::new(None);
-    let meter = NoCount;
-    let file = open_arg(rt, arg, false, input)?;
-    let end = check.inputs.end.of_file(file.is_regular());
-    let name = input_name(arg);
-    let sorted = check.sorted;
-    let checked = match file {
-        Opened::Regular(file, stamp) => match regular_input(file, end, &failure, &meter) {
-            Ok(file) => check_regular(rt.alloc(), sorted, name, file, stamp, &failure),
-            Err(Broken) => Err(Fault::at(0, 0, Reason::ReadFault).into()),
+) -> Result<CheckReport, Refusal<'a>> {
+    let (failed, meter) = (Cell::new(false), NoCount);
+    report_watched(rt, files, arg, sorted, input, &Watch { failed, meter })
+}
+
+/// Does the same. The reads of the file are noted in `watch`.
+fn report_watched<'a, I: Read + Drop>(
+    rt: &HostRuntime,
+    files: &InputFiles<'a>,
+    arg: &'a str,
+    sorted: bool,
+    input: &mut Option<I>,
+    watch: &Watch<NoCount>,
+) -> Result<CheckReport, Refusal<'a>> {
+    let mut inputs = Vec::new(rt.alloc());
+    let outcome = match OpenInput::open(rt, files, arg, input, watch) {
+        Ok(input) => match inputs.push(input) {
+            Ok(()) => check_first(rt.alloc(), inputs.as_slice(), sorted),
+            Err(error) => Err(error.into()),
         },
-        Opened::Stream(stream) => {
-            let stream = stream_input(stream, end, &failure, &meter);
-            match check_stream(rt.alloc(), sorted, stream) {
-                Ok(report) => Ok(report),
-                Err(fault) => Err(fault_at_end(&fault, fault.place, &failure).into()),
-            }
-        }
+        Err(refusal) => Err(refusal),
     };
-    match checked {
-        Err(Refusal::Fault(fault)) => {
-            Err(Refusal::of_fault(rt.alloc(), &fault, &[name], name, None))
-        }
-        checked => checked,
+    drop(inputs);
+    outcome
+}
+
+/// Checks the first one of open inputs. It has to be sorted if `sorted` is set.
+fn check_first<'a, I: Read + Drop>(
+    alloc: Global,
+    inputs: &[OpenInput<'a, '_, I, NoCount>],
+    sorted: bool,
+) -> Result<CheckReport, Refusal<'a>> {
+    match inputs.first() {
+        Some(input) => check_input(alloc, input, sorted),
+        None => Err(Refusal::Memory(AllocError)),
     }
 }
 
-/// Checks a regular file with this stamp. `failure` has its reader's error.
-fn check_regular<'a, F: PartFile + Drop>(
+/// Checks an open input. It has to be sorted if `sorted` is set.
+fn check_input<'a, I: Read + Drop>(
     alloc: Global,
+    input: &OpenInput<'a, '_, I, NoCount>,
     sorted: bool,
-    name: &'a str,
-    file: RegularInput<'_, F, NoCount>,
-    stamp: Stamp,
-    failure: &Failure,
 ) -> Result<CheckReport, Refusal<'a>> {
-    let checked = check_file(alloc, &file, stamp.size, sorted);
-    match (refuse_changed(&file, stamp, name), checked) {
-        (Err(refusal), _) => Err(refusal),
-        (Ok(()), Ok(report)) => Ok(report),
-        (Ok(()), Err(fault)) if file.lacks_end() => {
-            Err(fault_at_end(&fault, stamp.size, failure).into())
-        }
-        (Ok(()), Err(fault)) => Err(fault.into()),
+    let checked = match &input.bytes {
+        InputBytes::Regular(file, stamp) => check_file(alloc, file, stamp.size, sorted),
+        InputBytes::Stream(stream) => match stream.take() {
+            Some(stream) => check_stream(alloc, sorted, stream),
+            None => Err(Fault::at(0, 0, Reason::Failed)),
+        },
+    };
+    input.refuse_changed()?;
+    match checked {
+        Ok(report) => Ok(report),
+        Err(fault) => Err(input.refusal(alloc, &fault)),
     }
 }
 

@@ -1,21 +1,30 @@
 //! Inputs of commands. Their bytes are counted and their errors are noted. They may refuse a file whose last line has
 //! no end or isn't the end mark.
-use super::files::{Opened, Stamp, Stream};
-use super::part::PartFile;
-use super::refusal::Refusal;
-use super::request::FileEnd;
-use osm_files::{
-    Broken, Clear, EndMarked, Fault, FromFile, FromRead, ReadAt, Reason, WholeFile, WholeLines,
-};
-use osm_mirror::RunFile;
-use std::alloc::{AllocError, Global};
-use std::cell::Cell;
-use std::io;
-use std::io::{Read, Write};
-use std::os::unix::fs::FileExt;
+ghost use Rattle.std.specs.Prelude.{◌≡◌};
 
-/// The system's number of a stream's last error. It is 0 for an error without a number, and none if no call failed.
-pub(super) type Failure = Cell<Option<i32>>;
+use super::files::{STANDARD_INPUT, Stamp, open, read_retried};
+use super::part::FileId;
+use super::refusal::Refusal;
+use super::request::{FileEnd, InputFiles};
+use super::target::STANDARD;
+use either::{Either, Left, Right};
+use osm_files::{
+    Broken, EndMarked, Fault, FromFile, FromRead, ReadAt, Reason, WholeFile, WholeLines,
+};
+use std::alloc::Global;
+use std::cell::Cell;
+use std::fs::File;
+use std::io;
+use std::io::Read;
+
+/// What is noted of the reads of an input.
+#[derive(Drop)]
+pub(super) struct Watch<M> {
+    /// Whether one failed.
+    pub(super) failed: Cell<bool>,
+    /// The meter that counts the bytes.
+    pub(super) meter: M,
+}
 
 /// Counts the bytes that a command reads.
 pub(super) trait CountBytes {
@@ -31,95 +40,39 @@ impl CountBytes for NoCount {
     fn count(&self, _count: usize) {}
 }
 
-/// A writer whose errors are noted.
-#[derive(Drop)]
-pub(super) struct Noted<'n, F> {
-    /// The writer.
-    writer: F,
-    /// Its last error.
-    failure: &'n Failure,
-}
-
-impl<'n, F> Noted<'n, F> {
-    /// A writer whose errors are noted in `failure`.
-    pub(super) fn new(writer: F, failure: &'n Failure) -> Noted<'n, F> {
-        Noted { writer, failure }
-    }
-}
-
-/// Notes an error in `failure`, and returns it.
-fn note_error(failure: &Failure, error: io::Error) -> io::Error {
-    failure.set(Some(error.raw_os_error().unwrap_or(0)));
-    error
-}
-
-impl<'n, F: Write> Write for Noted<'n, F> {
-    ghost contents = { λ s. F.contents s.writer };
-
-    fn write(&mut self, bytes: &[u8]) -> io::Result<usize> {
-        match self.writer.write(bytes) {
-            Ok(count) => Ok(count),
-            Err(error) => Err(note_error(self.failure, error)),
-        }
-    }
-
-    fn flush(&mut self) -> io::Result<()> {
-        self.writer.flush()
-    }
-}
-
-impl<'n, F: Clear> Clear for Noted<'n, F> {
-    ghost can_clear = { λ s. F.can_clear s.writer };
-
-    fn can_be_cleared(&self) -> bool {
-        self.writer.can_be_cleared()
-    }
-
-    fn clear(&mut self) -> io::Result<()> {
-        match self.writer.clear() {
-            Ok(()) => Ok(()),
-            Err(error) => Err(note_error(self.failure, error)),
-        }
-    }
-}
-
-/// A file or a stream whose bytes are counted, and whose errors are noted.
+/// A file or a stream whose bytes are counted, and whose errors are noted. A read of a stream that a signal interrupts
+/// is tried again.
 #[derive(Drop)]
 pub(super) struct Metered<'n, F, M> {
     /// The file or the stream.
     inner: F,
-    /// Its last error.
-    failure: &'n Failure,
-    /// The meter that counts the bytes.
-    meter: &'n M,
+    /// What is noted.
+    watch: &'n Watch<M>,
 }
 
-impl<'n, F, M> Metered<'n, F, M> {
-    /// The file or stream `inner`, whose errors go to `failure`.
-    fn new(inner: F, failure: &'n Failure, meter: &'n M) -> Metered<'n, F, M> {
-        Metered {
-            inner,
-            failure,
-            meter,
+impl<F, M: CountBytes> Metered<'_, F, M> {
+    /// Counts the bytes of a read, or notes its error.
+    fn note<X>(&self, outcome: Result<usize, X>) -> Result<usize, X>
+        ensures { result ≡ outcome }
+    {
+        match &outcome {
+            Ok(count) => self.watch.meter.count(*count),
+            Err(_) => self.watch.failed.set(true),
         }
+        outcome
     }
 }
 
-impl<'n, F: Read, M: CountBytes> Read for Metered<'n, F, M> {
+impl<F: Read, M: CountBytes> Read for Metered<'_, F, M> {
     ghost remaining = { λ s. F.remaining s.inner };
 
     fn read(&mut self, buffer: &mut [u8]) -> io::Result<usize> {
-        match self.inner.read(buffer) {
-            Ok(count) => {
-                self.meter.count(count);
-                Ok(count)
-            }
-            Err(error) => Err(note_error(self.failure, error)),
-        }
+        let outcome = read_retried(&mut self.inner, buffer);
+        self.note(outcome)
     }
 }
 
-impl<'n, F: ReadAt, M: CountBytes> ReadAt for Metered<'n, F, M> {
+impl<F: ReadAt, M: CountBytes> ReadAt for Metered<'_, F, M> {
     ghost bytes = { λ s. F.bytes s.inner };
 
     ghost fails = { λ s. F.fails s.inner };
@@ -129,188 +82,143 @@ impl<'n, F: ReadAt, M: CountBytes> ReadAt for Metered<'n, F, M> {
     }
 
     fn read_at(&self, buffer: &mut [u8], offset: u64) -> Result<usize, Broken> {
-        match self.inner.read_at(buffer, offset) {
-            Ok(count) => {
-                self.meter.count(count);
-                Ok(count)
-            }
-            Err(Broken) => {
-                self.failure.set(Some(0));
-                Err(Broken)
-            }
-        }
+        let outcome = self.inner.read_at(buffer, offset);
+        self.note(outcome)
     }
 }
 
 /// A regular file of a command.
-pub(super) type RegularInput<'n, F: FileExt, M: CountBytes> = WholeFile<
-    Metered<'n, FromFile<F>, M>,
+pub(super) type RegularInput<'n, M: CountBytes> = WholeFile<Metered<'n, FromFile<File>, M>>;
+
+/// A pipe, a device, an empty file or standard input, as a stream of a command. A file of `/proc` has bytes, though its
+/// size is 0.
+pub(super) type StreamInput<'n, I, M> = WholeLines<
+    EndMarked<FromRead<Metered<'n, Either<File, I>, M>>>,
 >;
 
-/// A stream of a command.
-pub(super) type StreamInput<'n, F, I, M> = WholeLines<
-    EndMarked<FromRead<Metered<'n, Stream<F, I>, M>>>,
->;
+/// The bytes of an input.
+#[derive(Drop)]
+pub(super) enum InputBytes<'n, I: Read + Drop, M: CountBytes> {
+    /// A regular file, with its stamp of the moment when it was opened.
+    Regular(RegularInput<'n, M>, Stamp),
+    /// A stream; none after a run has taken it.
+    Stream(Cell<Option<StreamInput<'n, I, M>>>),
+}
 
-/// The regular file `file`, which has to end as `end` requires. Its errors go to `failure`.
-///
-/// # Errors
-///
-/// `Broken` if the file can't be read.
-pub(super) fn regular_input<'n, F: FileExt + Drop, M: CountBytes>(
-    file: FromFile<F>,
-    end: FileEnd,
-    failure: &'n Failure,
-    meter: &'n M,
-) -> Result<RegularInput<'n, F, M>, Broken> {
-    let metered = Metered::new(file, failure, meter);
-    match end {
-        FileEnd::Any => Ok(WholeFile::any_end(metered)),
-        FileEnd::LineFeed | FileEnd::Mark => WholeFile::new(metered),
+impl<'n, I: Read + Drop, M: CountBytes> InputBytes<'n, I, M> {
+    /// The bytes of a file, which has this stamp if it is a regular one. An empty file is a stream, unless
+    /// `files` keeps it.
+    fn of_file(
+        file: File,
+        stamp: Option<Stamp>,
+        files: &InputFiles<'_>,
+        watch: &'n Watch<M>,
+    ) -> Result<InputBytes<'n, I, M>, Fault> {
+        let end = files.end.of_file(stamp.is_some());
+        let Some(stamp) = stamp.filter(|stamp| stamp.size > 0 || files.keeps_empty) else {
+            return Ok(InputBytes::of_stream(Left(file), end, watch));
+        };
+        let inner = FromFile::new(file, stamp.size);
+        let metered = Metered { inner, watch };
+        match end {
+            FileEnd::Any => Ok(InputBytes::Regular(WholeFile::any_end(metered), stamp)),
+            FileEnd::LineFeed | FileEnd::Mark => match WholeFile::new(metered) {
+                Ok(file) => Ok(InputBytes::Regular(file, stamp)),
+                Err(Broken) => Err(Fault::at(0, 0, Reason::ReadFault)),
+            },
+        }
     }
-}
 
-/// The stream `stream`, which has to end as `end` requires. Its errors go to `failure`.
-pub(super) fn stream_input<'n, F: Read + Drop, I: Read + Drop, M: CountBytes>(
-    stream: Stream<F, I>,
-    end: FileEnd,
-    failure: &'n Failure,
-    meter: &'n M,
-) -> StreamInput<'n, F, I, M> {
-    let input = FromRead::new(Metered::new(stream, failure, meter));
-    match end {
-        FileEnd::Any => WholeLines::any_end(EndMarked::any_end(input)),
-        FileEnd::LineFeed => WholeLines::new(EndMarked::any_end(input)),
-        FileEnd::Mark => WholeLines::any_end(EndMarked::new(input)),
-    }
-}
-
-/// Refuses the file `file`, whose name is `name`, if `stamp` isn't its stamp any longer.
-pub(super) fn refuse_changed<'a, F: PartFile + Drop, M: CountBytes>(
-    file: &RegularInput<'_, F, M>,
-    stamp: Stamp,
-    name: &'a str,
-) -> Result<(), Refusal<'a>> {
-    stamp.refuse_changed(file.get_ref().inner.get_ref(), name)
-}
-
-/// The fault of an input, with `NoEnd` at `end` instead of `ReadFault` if no read of the system failed. Then the last
-/// line of the input has no end, or isn't the end mark. `failure` has the input's last error.
-pub(super) fn fault_at_end(fault: &Fault, end: u64, failure: &Failure) -> Fault {
-    if fault.reason == Reason::ReadFault && failure.get().is_none() {
-        Fault::at(fault.input, end, Reason::NoEnd)
-    } else {
-        Fault::at(fault.input, fault.place, fault.reason)
+    /// The bytes of a stream, which has to end as `end` requires.
+    fn of_stream(
+        inner: Either<File, I>,
+        end: FileEnd,
+        watch: &'n Watch<M>,
+    ) -> InputBytes<'n, I, M> {
+        let input = FromRead::new(Metered { inner, watch });
+        InputBytes::Stream(Cell::new(Some(match end {
+            FileEnd::Any => WholeLines::any_end(EndMarked::any_end(input)),
+            FileEnd::LineFeed => WholeLines::new(EndMarked::any_end(input)),
+            FileEnd::Mark => WholeLines::any_end(EndMarked::new(input)),
+        })))
     }
 }
 
 /// An open input of a command.
 #[derive(Drop)]
-pub(super) enum OpenInput<'n, F: FileExt + Read + Drop, I: Read + Drop, M: CountBytes> {
-    /// A regular file, with its stamp of the moment when it was opened.
-    Regular(RegularInput<'n, F, M>, Stamp),
-    /// A stream; none after a run has taken it.
-    Stream(Cell<Option<StreamInput<'n, F, I, M>>>),
+pub(super) struct OpenInput<'a, 'n, I: Read + Drop, M: CountBytes> {
+    /// Its name in the line of a fault.
+    pub(super) name: &'a str,
+    /// The identity of the file, if it is known.
+    pub(super) id: Option<FileId>,
+    /// Its bytes.
+    pub(super) bytes: InputBytes<'n, I, M>,
+    /// What is noted of its reads.
+    watch: &'n Watch<M>,
 }
 
-impl<'n, F: PartFile + Read + Drop, I: Read + Drop, M: CountBytes> OpenInput<'n, F, I, M> {
-    /// The open file `file`, which has to end as `end` requires. Its errors go to `failure`.
-    ///
-    /// # Errors
-    ///
-    /// `Broken` if the file can't be read.
-    pub(super) fn new(
-        file: Opened<F, I>,
-        end: FileEnd,
-        failure: &'n Failure,
-        meter: &'n M,
-    ) -> Result<OpenInput<'n, F, I, M>, Broken> {
-        match file {
-            Opened::Regular(file, stamp) => {
-                let file = regular_input(file, end, failure, meter)?;
-                Ok(OpenInput::Regular(file, stamp))
+impl<'a, 'n, I: Read + Drop, M: CountBytes> OpenInput<'a, 'n, I, M> {
+    /// Opens the file that `arg` names, or standard input, which is taken from `input`. `files` has the end that it
+    /// must have. Its reads are noted in `watch`.
+    pub(super) fn open(
+        rt: &HostRuntime,
+        files: &InputFiles<'a>,
+        arg: &'a str,
+        input: &mut Option<I>,
+        watch: &'n Watch<M>,
+    ) -> Result<OpenInput<'a, 'n, I, M>, Refusal<'a>> {
+        let (name, id, bytes) = if arg != STANDARD {
+            let file = open(rt, arg)?;
+            // The system is asked once: a change after this moment is noticed.
+            let metadata = file.metadata().ok();
+            let id = metadata.as_ref().map(|metadata| FileId::of(metadata));
+            let stamp = metadata.as_ref().and_then(|metadata| Stamp::of(metadata));
+            match InputBytes::of_file(file, stamp, files, watch) {
+                Ok(bytes) => (arg, id, bytes),
+                Err(fault) => return Err(Refusal::of_fault(rt.alloc(), fault, arg, None)),
             }
-            Opened::Stream(stream) => {
-                let stream = stream_input(stream, end, failure, meter);
-                Ok(OpenInput::Stream(Cell::new(Some(stream))))
+        } else if let Some(stream) = input.take() {
+            let bytes = InputBytes::of_stream(Right(stream), files.end, watch);
+            (STANDARD_INPUT, FileId::of_input(rt), bytes)
+        } else {
+            let name = STANDARD_INPUT;
+            return Err(Refusal::CannotRead { name });
+        };
+        Ok(OpenInput {
+            name,
+            id,
+            bytes,
+            watch,
+        })
+    }
+
+    /// The file of a regular input.
+    pub(super) fn file(&self) -> Option<(&FromFile<File>, Stamp)> {
+        match &self.bytes {
+            InputBytes::Regular(file, stamp) => Some((&file.get_ref().inner, *stamp)),
+            InputBytes::Stream(_) => None,
+        }
+    }
+
+    /// Refuses a regular file that has changed since it was opened.
+    pub(super) fn refuse_changed(&self) -> Result<(), Refusal<'a>> {
+        match self.file() {
+            Some((file, stamp)) => stamp.refuse_changed(file.get_ref(), self.name),
+            None => Ok(()),
+        }
+    }
+
+    /// The refusal of this input for `fault`. It is `NoEnd` instead of `ReadFault` if no read of the system failed:
+    /// then the last line has no end, or isn't the end mark.
+    pub(super) fn refusal(&self, alloc: Global, fault: &Fault) -> Refusal<'a> {
+        let lacks_end = fault.reason == Reason::ReadFault && !self.watch.failed.get();
+        let (place, reason) = match &self.bytes {
+            InputBytes::Regular(file, stamp) if lacks_end && file.lacks_end() => {
+                (stamp.size, Reason::NoEnd)
             }
-        }
+            InputBytes::Stream(_) if lacks_end => (fault.place, Reason::NoEnd),
+            _ => (fault.place, fault.reason),
+        };
+        Refusal::of_fault(alloc, Fault::at(0, place, reason), self.name, None)
     }
-
-    /// Refuses a regular file that has changed since it was opened. `name` is its name.
-    pub(super) fn refuse_changed<'a>(&self, name: &'a str) -> Result<(), Refusal<'a>> {
-        match self {
-            OpenInput::Regular(file, stamp) => refuse_changed(file, *stamp, name),
-            OpenInput::Stream(_) => Ok(()),
-        }
-    }
-
-    /// The size of a regular file, in bytes.
-    pub(super) fn size(&self) -> Option<u64> {
-        match self {
-            OpenInput::Regular(_, stamp) => Some(stamp.size),
-            OpenInput::Stream(_) => None,
-        }
-    }
-
-    /// The fault of this input, with `NoEnd` instead of `ReadFault` if its last line has no end, or isn't the end mark.
-    /// `failure` has the input's last error.
-    pub(super) fn fault(&self, fault: &Fault, failure: &Failure) -> Fault {
-        match self {
-            OpenInput::Regular(file, stamp) if file.lacks_end() => {
-                fault_at_end(fault, stamp.size, failure)
-            }
-            OpenInput::Regular(..) => Fault::at(fault.input, fault.place, fault.reason),
-            OpenInput::Stream(_) => fault_at_end(fault, fault.place, failure),
-        }
-    }
-}
-
-/// A file of a run over a regular file or a stream of a command.
-pub(super) type FileOfRun<'f, 'n, F, I, M> = RunFile<
-    'f,
-    RegularInput<'n, F, M>,
-    StreamInput<'n, F, I, M>,
->;
-
-/// The inputs as files of a run, which takes the streams.
-pub(super) fn files_of_run<'f, 'n, F: PartFile + Read + Drop, I: Read + Drop, M: CountBytes>(
-    alloc: Global,
-    inputs: &'f [OpenInput<'n, F, I, M>],
-) -> Result<Vec<FileOfRun<'f, 'n, F, I, M>>, AllocError> {
-    let mut files = Vec::new(alloc);
-    for input in inputs {
-        match input {
-            OpenInput::Regular(file, _) => files.push(RunFile::File(file))?,
-            OpenInput::Stream(stream) => {
-                if let Some(stream) = stream.take() {
-                    files.push(RunFile::Stream(stream))?;
-                }
-            }
-        }
-    }
-    Ok(files)
-}
-
-/// The inputs that are regular files.
-pub(super) fn regular_files<'f, 'n, F: PartFile + Read + Drop, I: Read + Drop, M: CountBytes>(
-    alloc: Global,
-    inputs: &'f [OpenInput<'n, F, I, M>],
-) -> Result<Vec<&'f RegularInput<'n, F, M>>, AllocError> {
-    let mut files = Vec::new(alloc);
-    for input in inputs {
-        if let OpenInput::Regular(file, _) = input {
-            files.push(file)?;
-        }
-    }
-    Ok(files)
-}
-
-/// A `Failure` without an error for each of `count` inputs.
-pub(super) fn no_failures(alloc: Global, count: usize) -> Result<Vec<Failure>, AllocError> {
-    let mut failures = Vec::new(alloc);
-    for _ in 0..count {
-        failures.push(Cell::new(None))?;
-    }
-    Ok(failures)
 }

@@ -4,80 +4,87 @@ ghost use Rattle.std.specs.List.{All};
 ghost use Rattle.osm_mirror.specs.Event.{IsWithin};
 ghost use Rattle.osm_mirror.specs.Plan.{NamesItsMirrors};
 
-use super::files::read;
-use super::hint::Hint;
-use super::part::{PartFile, id_of_regular, part_name};
-use super::print;
+use super::files::{open, read};
+use super::part::{id_of_regular, part_name};
 use super::refusal::Refusal;
-use super::request::PlanRun;
-use super::target::Target;
+use super::target::{STANDARD, Target};
+use super::{hint, print};
+use clap::ArgMatches;
 use osm_files::{Fault, Output, Reason, ToWrite, write_all};
 use osm_mirror::{Event, Fleet, Plan, PlanWrite, Reply, Step, read_plan};
 use std::alloc::{AllocError, Global};
-use std::io::Write;
-use std::rt::Files;
+use std::io::{IsTerminal, Write};
 
-/// Runs a plan. It prints the reply to each step, and then makes the files of the write lines. If events
-/// were refused, the result says so; if the plan is strict, no file is made then.
-pub(super) fn run_plan<'a, R: Files + AllocGlobal, O: Write>(
-    rt: &R,
-    run: &PlanRun<'a>,
+/// Runs a plan and returns the exit status. It prints the reply to each step, and then makes the files of the write
+/// lines. If events were refused, a hint says so; if the plan is strict, no file is made then. No hint follows the
+/// refusal of a file that the plan names.
+pub(super) fn run_plan<O: Write, E: Write + IsTerminal>(
+    rt: &HostRuntime,
+    args: &ArgMatches<'_>,
     out: &mut O,
-) -> Result<Option<Hint<'a>>, Refusal<'a>>
-where
-    R::File: PartFile,
-{
-    let text = read(rt, run.plan)?;
-    match read_plan(rt.alloc(), text.as_slice()) {
-        Ok(plan) => match run_lines(rt, run, &plan, out) {
-            Ok(0) => Ok(None),
-            Ok(count) if run.strict => Err(Refusal::EventsRefused {
-                name: run.plan,
-                count,
-            }),
-            Ok(count) => Ok(Some(Hint::EventsRefused { count })),
-            Err(refusal) => Err(refusal.in_plan(rt.alloc())),
-        },
-        Err(fault) => Err(Refusal::of_plan(fault, run.plan)),
+    err: &mut E,
+) -> u8 {
+    let name = args.get_str("plan").unwrap_or(STANDARD);
+    let (strict, hints) = (args.get_flag("strict"), args.get_flag("hints"));
+    let plan = match plan_of(rt, name) {
+        Ok(plan) => plan,
+        Err(refusal) => return hint::report(rt, &refusal, err, hints),
+    };
+    match run_lines(rt, name, &plan, strict, out) {
+        Ok(0) => 0,
+        Ok(count) if strict => {
+            hint::report(rt, &Refusal::EventsRefused { name, count }, err, hints)
+        }
+        Ok(count) => {
+            hint::advise(hint::after_events(rt.alloc(), count), err, hints);
+            0
+        }
+        Err(refusal) => refusal.report(err),
     }
 }
 
-/// Runs the lines of a plan, and returns the number of refused events. All files that the plan takes are read before
-/// the first step.
-fn run_lines<'p, R: Files + AllocGlobal, O: Write>(
-    rt: &R,
-    run: &PlanRun<'_>,
+/// The plan in the file `name`.
+fn plan_of<'a>(rt: &HostRuntime, name: &'a str) -> Result<Plan, Refusal<'a>>
+    ensures { IfOk result NamesItsMirrors }
+{
+    let text = read(rt, &mut open(rt, name)?, name)?;
+    match read_plan(rt.alloc(), text.as_slice()) {
+        Ok(plan) => Ok(plan),
+        Err(fault) => Err(Refusal::of_plan(fault, name)),
+    }
+}
+
+/// Runs the lines of the plan in the file `name`, and returns the number of refused events. After one, no file is made
+/// if `strict` is set. All files that the plan takes are read before the first step.
+fn run_lines<'p, O: Write>(
+    rt: &HostRuntime,
+    name: &str,
     plan: &'p Plan,
+    strict: bool,
     out: &mut O,
 ) -> Result<usize, Refusal<'p>>
-where
-    R::File: PartFile,
     requires { NamesItsMirrors plan.now }
 {
-    refuse_overwriting(rt, run.plan, plan.writes.as_slice())?;
-    let files = read_taken(rt, plan.steps.as_slice())?;
-    let mut fleet = Fleet::new(rt.alloc(), plan.mirrors.as_slice())?;
-    let events = events_of(
-        rt.alloc(),
-        plan.mirrors.len(),
-        plan.steps.as_slice(),
-        files.as_slice(),
-    )?;
+    let (alloc, steps) = (rt.alloc(), plan.steps.as_slice());
+    refuse_overwriting(rt, name, plan.writes.as_slice())?;
+    let files = read_taken(rt, steps)?;
+    let mut fleet = Fleet::new(alloc, plan.mirrors.as_slice())?;
+    let events = events_of(alloc, plan.mirrors.len(), steps, files.as_slice())?;
     let replies = fleet.run(events.as_slice())?;
-    print(out, &lines_of(rt.alloc(), replies.as_slice())?)?;
+    print(out, &lines_of(alloc, replies.as_slice())?)?;
     let refused = replies
         .iter()
         .filter(|reply| matches!(reply, Reply::Refused(_)))
         .count();
-    if refused == 0 || !run.strict {
+    if refused == 0 || !strict {
         write_files(rt, &fleet, plan.writes.as_slice(), out)?;
     }
     Ok(refused)
 }
 
 /// Refuses a write line that would replace the plan `name`, or the file of another write line by its OUT.part.
-fn refuse_overwriting<'p, R: Files + AllocGlobal>(
-    rt: &R,
+fn refuse_overwriting<'p>(
+    rt: &HostRuntime,
     name: &str,
     writes: &'p [PlanWrite],
 ) -> Result<(), Refusal<'p>> {
@@ -100,14 +107,11 @@ fn refuse_overwriting<'p, R: Files + AllocGlobal>(
 }
 
 /// The bytes that each step takes: those of its file, or none if the step takes no file.
-fn read_taken<'p, R: Files + AllocGlobal>(
-    rt: &R,
-    steps: &'p [Step],
-) -> Result<Vec<Vec<u8>>, Refusal<'p>> {
+fn read_taken<'p>(rt: &HostRuntime, steps: &'p [Step]) -> Result<Vec<Vec<u8>>, Refusal<'p>> {
     let mut files = Vec::new(rt.alloc());
     for step in steps {
         let bytes = match step {
-            Step::Take { file, .. } => read(rt, file.as_str())?,
+            Step::Take { file, .. } => read(rt, &mut open(rt, file.as_str())?, file.as_str())?,
             _ => Vec::new(rt.alloc()),
         };
         files.push(bytes)?;
@@ -160,46 +164,41 @@ fn lines_of(alloc: Global, replies: &[Reply]) -> Result<String, AllocError> {
 }
 
 /// Makes the files of the write lines, in their order.
-fn write_files<'p, R: Files + AllocGlobal, O: Write>(
-    rt: &R,
+fn write_files<'p, O: Write>(
+    rt: &HostRuntime,
     fleet: &Fleet,
     writes: &'p [PlanWrite],
     out: &mut O,
 ) -> Result<(), Refusal<'p>>
-where
-    R::File: PartFile,
     requires { All (λ write. write.mirror < length fleet.now) writes.now }
 {
     'writes: for write in writes {
         let name = write.file.as_str();
         match fleet.mirror(write.mirror).write(write.format) {
-            Ok(bytes) => make_file(rt, name, bytes.as_slice(), out)?,
-            Err(fault) => return Err(Refusal::of_fault(rt.alloc(), &fault, &[], name, None)),
+            Ok(bytes) => make_file(rt, name, bytes.as_slice(), &mut *out)?,
+            Err(fault) => return Err(Refusal::of_fault(rt.alloc(), fault, name, None)),
         }
     }
     Ok(())
 }
 
 /// Makes OUT from `bytes`. A file is written as OUT.part, which becomes OUT at the end and is removed after a refusal.
-fn make_file<'p, R: Files + AllocGlobal, O: Write>(
-    rt: &R,
+fn make_file<'p, O: Write + Drop>(
+    rt: &HostRuntime,
     name: &'p str,
     bytes: &[u8],
-    out: &mut O,
-) -> Result<(), Refusal<'p>>
-where
-    R::File: PartFile,
-{
+    out: O,
+) -> Result<(), Refusal<'p>> {
     let target = Target::of_name(rt, name);
-    let mut destination = target.open(rt, &[], out)?;
-    let outcome = match write_bytes(bytes, &mut destination) {
-        Ok(()) => target.complete(rt, &destination, false),
-        Err(fault) => Err(Refusal::of_fault(rt.alloc(), &fault, &[], target.name(), None)),
+    let mut destination = match target.open(rt, &[], out) {
+        Ok(destination) => destination,
+        Err(refusal) => return Err(refusal),
     };
-    if outcome.is_err() {
-        destination.discard(rt);
-    }
-    outcome
+    let written = match write_bytes(bytes, &mut destination) {
+        Ok(()) => Ok(()),
+        Err(fault) => Err(Refusal::of_fault(rt.alloc(), fault, target.name(), None)),
+    };
+    destination.finish(rt, written, false)
 }
 
 /// Writes `bytes` as the whole content of an output.

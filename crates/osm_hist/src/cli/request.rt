@@ -1,72 +1,222 @@
-//! Requests: the arguments of a command, parsed.
-use super::command::{LIST, command};
-use super::list::names_of;
+//! Requests: the arguments of a command over files, parsed, and the list that may have the names of the files.
+use super::command::LIST;
+use super::files::{STANDARD_INPUT, input_name, open, read, read_stream};
+use super::part::FileId;
 use super::refusal::Refusal;
 use super::shard::parse_shard;
-use super::target::STANDARD;
-use clap::{ArgMatches, Error};
+use super::target::{STANDARD, Target};
+use clap::ArgMatches;
 use osm_files::Format;
 use osm_mirror::{Command, FileRequest, FilesRun, Shard};
 use std::alloc::Global;
-use std::convert::AsStr;
+use std::io::Read;
 
-/// The request that the arguments make.
+/// The request of a command over files.
 #[derive(Drop)]
-pub(super) enum Request<'a> {
-    /// A run that makes one file from files.
-    Files(FileRun<'a>),
-    /// A check of files.
-    Check(FileCheck<'a>),
-    /// A run of a plan.
-    Plan(PlanRun<'a>),
-    /// Help or the version. The error has the text.
-    Help(Error),
+pub(super) struct Request<'a> {
+    /// The run that makes one file from the files, or none if they are checked.
+    pub(super) run: Option<FileRun<'a>>,
+    /// The files. If a list has their names, there are none until the list is read.
+    pub(super) files: InputFiles<'a>,
+    /// The name of the list, if there is one.
+    pub(super) list: Option<&'a str>,
+    /// Whether each file has to be sorted.
+    pub(super) sorted: bool,
 }
 
-/// The arguments of a run without arguments: standard input is merged to standard output.
-const NO_ARGS: [&str; 4] = ["merge", "--output", STANDARD, STANDARD];
+impl<'a> Request<'a> {
+    /// The request that the arguments of the command `name` make. `clap` has checked that all required arguments are
+    /// given.
+    ///
+    /// # Errors
+    ///
+    /// A mistake in the times, in the shard or in the names of the files, or out of memory.
+    pub(super) fn of_matches(
+        alloc: Global,
+        name: &str,
+        args: &ArgMatches<'a>,
+    ) -> Result<Request<'a>, Refusal<'a>> {
+        let list = args.get_str(LIST);
+        let names = match args.get_strs("files") {
+            Some(names) if list.is_none() => Vec::from_slice(alloc, names)?,
+            _ => Vec::new(alloc),
+        };
+        refuse_twice(names.as_slice())?;
+        let files = InputFiles {
+            names,
+            list: None,
+            end: FileEnd::of_matches(args),
+            keeps_empty: args.get_str("shard").is_some(),
+        };
+        let sorted = args.get_flag("sorted");
+        match FileRun::of_matches(name, args) {
+            Ok(run) => Ok(Request {
+                run,
+                files,
+                list,
+                sorted,
+            }),
+            Err(refusal) => Err(refusal),
+        }
+    }
 
-/// The input files of a request.
-#[derive(Drop)]
-pub(super) struct InputFiles<'a> {
-    /// Their names.
-    pub(super) names: Vec<&'a str>,
-    /// The name of a list that has their names, if there is one. Then `names` is empty until the list is read.
-    pub(super) list: Option<&'a str>,
-    /// How OPL files must end.
-    pub(super) end: FileEnd,
+    /// The request with the names in its list of files. `text` is the text of the list, and `id` its identity.
+    ///
+    /// # Errors
+    ///
+    /// A mistake in the list, or out of memory.
+    pub(super) fn with_list(
+        self,
+        alloc: Global,
+        text: &'a str,
+        id: Option<FileId>,
+    ) -> Result<Request<'a>, Refusal<'a>> {
+        let Some(list) = self.list else {
+            return Ok(self);
+        };
+        let names = names_of(alloc, list, text)?;
+        refuse_twice(names.as_slice())?;
+        let files = InputFiles {
+            names,
+            list: id,
+            end: self.files.end,
+            keeps_empty: self.files.keeps_empty,
+        };
+        Ok(Request { files, ..self })
+    }
+}
+
+/// Refuses standard input in `names` more than once.
+fn refuse_twice<'a>(names: &[&str]) -> Result<(), Refusal<'a>> {
+    if names.iter().filter(|name| **name == STANDARD).count() > 1 {
+        Err(Refusal::StandardInputTwice)
+    } else {
+        Ok(())
+    }
 }
 
 /// A run that makes one file from files.
 #[derive(Drop)]
 pub(super) struct FileRun<'a> {
-    /// The command.
     pub(super) command: Command,
-    /// The name of the output.
     pub(super) output: &'a str,
-    /// The input files.
-    pub(super) inputs: InputFiles<'a>,
     /// The run: the versions that are written, the order of the files and the format of the output.
     pub(super) run: FilesRun,
     /// The shard of the output that is written, or none if all of it is written.
     pub(super) shard: Option<Shard>,
     /// Whether the output is synced to the disk before it is renamed.
     pub(super) fsync: bool,
-    /// Whether the run reports its progress.
     pub(super) progress: bool,
-    /// Whether the run prints a summary at its end.
     pub(super) summary: bool,
 }
 
-/// A check of files, one after the other.
+impl<'a> FileRun<'a> {
+    /// The run for which the arguments of the command `name` ask, or none if the command makes no file.
+    fn of_matches(name: &str, args: &ArgMatches<'a>) -> Result<Option<FileRun<'a>>, Refusal<'a>> {
+        let Some(command) = Command::named(name) else {
+            return Ok(None);
+        };
+        let run = file_request(command, args).run()?;
+        let shard = match args.get_str("shard") {
+            Some(shard) => Some(parse_shard(shard).ok_or(Refusal::NotShard { shard })?),
+            None => None,
+        };
+        Ok(Some(FileRun {
+            command,
+            output: args.get_str("output").unwrap_or(STANDARD),
+            run,
+            shard,
+            fsync: args.get_flag("fsync"),
+            progress: args.get_flag("progress"),
+            summary: args.get_flag("summary"),
+        }))
+    }
+}
+
+/// The arguments of `command` that determine what it writes. With a list of files, the first time of `time-filter` is
+/// in the argument `files` and the second in `time`.
+fn file_request<'a>(command: Command, args: &ArgMatches<'a>) -> FileRequest<'a> {
+    let (time, end) = if args.get_str(LIST).is_some() {
+        ("files", "time")
+    } else {
+        ("time", "end")
+    };
+    let format = args.get_str("format").and_then(|name| Format::named(name));
+    FileRequest {
+        command,
+        with_history: args.get_flag("with-history"),
+        with_deletions: args.get_flag("with-deletions"),
+        sorted: args.get_flag("sorted"),
+        time: args.get_str(time),
+        end: args.get_str(end),
+        format: format.unwrap_or(Format::Opl),
+    }
+}
+
+/// The input files of a request.
 #[derive(Drop)]
-pub(super) struct FileCheck<'a> {
-    /// The files.
-    pub(super) inputs: InputFiles<'a>,
-    /// Whether each file has to be sorted.
-    pub(super) sorted: bool,
-    /// Whether the arguments ask for hints.
-    pub(super) hints: bool,
+pub(super) struct InputFiles<'a> {
+    pub(super) names: Vec<&'a str>,
+    /// The identity of the list that has their names, if it is known.
+    pub(super) list: Option<FileId>,
+    /// How OPL files must end.
+    pub(super) end: FileEnd,
+    /// Whether an empty file is read as a regular file, and not as a stream. A file of `/proc` has bytes, though its
+    /// size is 0.
+    pub(super) keeps_empty: bool,
+}
+
+/// Reads the list of files that the request names, where `-` is standard input. The list has the names, each ended by
+/// NUL. Returns its text, and the identity of its file if that is known. Without a list the text is empty. A list that
+/// has the name of OUT.part is refused.
+pub(super) fn read_list<'a, I: Read + Drop>(
+    rt: &HostRuntime,
+    request: &Request<'a>,
+    input: &mut Option<I>,
+) -> Result<(String, Option<FileId>), Refusal<'a>> {
+    let Some(arg) = request.list else {
+        return Ok((String::new(rt.alloc()), None));
+    };
+    if let Some(run) = &request.run {
+        Target::of_arg(rt, run.output).refuse_part(&[arg])?;
+    }
+    let name = input_name(arg);
+    let (bytes, id) = if arg != STANDARD {
+        let mut file = open(rt, arg)?;
+        let bytes = read(rt, &mut file, arg)?;
+        (bytes, FileId::of_known(file.metadata()))
+    } else if let Some(mut stream) = input.take() {
+        (
+            read_stream(rt, &mut stream, STANDARD_INPUT)?,
+            FileId::of_input(rt),
+        )
+    } else {
+        return Err(Refusal::CannotRead { name });
+    };
+    match String::from_utf8(bytes) {
+        Ok(text) => Ok((text, id)),
+        Err(_) => Err(Refusal::ListNotUtf8 { name }),
+    }
+}
+
+/// The names in `text`, which is the text of `list`. The last name may lack its NUL.
+fn names_of<'a>(alloc: Global, list: &'a str, text: &'a str) -> Result<Vec<&'a str>, Refusal<'a>> {
+    let name = input_name(list);
+    if text.is_empty() {
+        return Err(Refusal::ListEmpty { name });
+    }
+    let mut names = Vec::new(alloc);
+    for file in text.strip_suffix('\0').unwrap_or(text).split('\0') {
+        if file.is_empty() {
+            let number = names.len().saturating_add(1);
+            return Err(Refusal::ListNameEmpty { name, number });
+        }
+        if file == STANDARD && list == STANDARD {
+            return Err(Refusal::StandardInputTwice);
+        }
+        names.push(file)?;
+    }
+    Ok(names)
 }
 
 /// How an OPL file must end.
@@ -98,185 +248,5 @@ impl FileEnd {
             FileEnd::Mark if is_regular => FileEnd::LineFeed,
             end => end,
         }
-    }
-}
-
-/// A run of a plan.
-#[derive(Clone, Copy, Debug)]
-pub(super) struct PlanRun<'a> {
-    /// The name of the plan's file.
-    pub(super) plan: &'a str,
-    /// Whether nothing is written after a refused event.
-    pub(super) strict: bool,
-}
-
-impl<'a> Request<'a> {
-    /// The list of files that the arguments name, if they name one.
-    pub(super) fn list(&self) -> Option<&'a str> {
-        match self {
-            Request::Files(run) => run.inputs.list,
-            Request::Check(check) => check.inputs.list,
-            Request::Plan(_) | Request::Help(_) => None,
-        }
-    }
-
-    /// Fills the request with the names in its list of files. `text` is the text of the list.
-    ///
-    /// # Errors
-    ///
-    /// A mistake in the list, or out of memory.
-    pub(super) fn with_list(
-        mut self,
-        alloc: Global,
-        text: &'a str,
-    ) -> Result<Request<'a>, Refusal<'a>> {
-        let Some(list) = self.list() else {
-            return Ok(self);
-        };
-        let names = names_of(alloc, list, text)?;
-        refuse_twice(names.as_slice())?;
-        match &mut self {
-            Request::Files(run) => run.inputs.names = names,
-            Request::Check(check) => check.inputs.names = names,
-            Request::Plan(_) | Request::Help(_) => {}
-        }
-        Ok(self)
-    }
-
-    /// The request that the arguments make. `args` are the arguments after the program's name. `hints` becomes whether
-    /// they ask for hints.
-    ///
-    /// # Errors
-    ///
-    /// A mistake in the arguments, times included, or out of memory.
-    pub(super) fn parse<S: AsStr>(
-        alloc: Global,
-        args: &'a [S],
-        hints: &mut bool,
-    ) -> Result<Request<'a>, Refusal<'a>> {
-        if args.is_empty() {
-            Request::of_args(alloc, NO_ARGS.as_slice(), hints)
-        } else {
-            Request::of_args(alloc, args, hints)
-        }
-    }
-
-    /// The request that some arguments make.
-    fn of_args<S: AsStr>(
-        alloc: Global,
-        args: &'a [S],
-        hints: &mut bool,
-    ) -> Result<Request<'a>, Refusal<'a>> {
-        match command(alloc)?.try_get_matches_from(args) {
-            Ok(matches) => match matches.subcommand() {
-                Some((name, args)) => {
-                    *hints = args.get_flag("hints");
-                    Request::of_command(alloc, name, args)
-                }
-                None => Err(Refusal::NoCommand),
-            },
-            Err(error) if error.use_stderr() => Err(Refusal::of_args(error)),
-            Err(help) => Ok(Request::Help(help)),
-        }
-    }
-
-    /// The request that the command `name` makes. `clap` has checked that all required arguments are given.
-    fn of_command(
-        alloc: Global,
-        name: &str,
-        args: &ArgMatches<'a>,
-    ) -> Result<Request<'a>, Refusal<'a>> {
-        if let Some(command) = Command::named(name) {
-            return Ok(Request::Files(FileRun::of_matches(alloc, command, args)?));
-        }
-        if name == "plan" {
-            return Ok(Request::Plan(PlanRun {
-                plan: args.get_str("plan").unwrap_or(STANDARD),
-                strict: args.get_flag("strict"),
-            }));
-        }
-        Ok(Request::Check(FileCheck {
-            inputs: InputFiles::of_matches(alloc, args)?,
-            sorted: args.get_flag("sorted"),
-            hints: args.get_flag("hints"),
-        }))
-    }
-}
-
-impl<'a> FileRun<'a> {
-    /// The run for which the arguments of the command `command` ask.
-    fn of_matches(
-        alloc: Global,
-        command: Command,
-        args: &ArgMatches<'a>,
-    ) -> Result<FileRun<'a>, Refusal<'a>> {
-        let inputs = InputFiles::of_matches(alloc, args)?;
-        Ok(FileRun {
-            command,
-            output: args.get_str("output").unwrap_or(STANDARD),
-            inputs,
-            run: file_request(command, args).run()?,
-            shard: shard(args)?,
-            fsync: args.get_flag("fsync"),
-            progress: args.get_flag("progress"),
-            summary: args.get_flag("summary"),
-        })
-    }
-}
-
-impl<'a> InputFiles<'a> {
-    /// The files for which the arguments ask. With a list of files there are no names yet.
-    fn of_matches(alloc: Global, args: &ArgMatches<'a>) -> Result<InputFiles<'a>, Refusal<'a>> {
-        let list = args.get_str(LIST);
-        let names = match args.get_strs("files") {
-            Some(names) if list.is_none() => Vec::from_slice(alloc, names)?,
-            _ => Vec::new(alloc),
-        };
-        refuse_twice(names.as_slice())?;
-        Ok(InputFiles {
-            names,
-            list,
-            end: FileEnd::of_matches(args),
-        })
-    }
-}
-
-/// Refuses standard input in `names` more than once.
-fn refuse_twice<'a>(names: &[&str]) -> Result<(), Refusal<'a>> {
-    if names.iter().filter(|name| **name == STANDARD).count() > 1 {
-        Err(Refusal::StandardInputTwice)
-    } else {
-        Ok(())
-    }
-}
-
-/// The arguments of `command` that determine what it writes. With a list of files, the first time of `time-filter` is
-/// in the argument `files` and the second in `time`.
-fn file_request<'a>(command: Command, args: &ArgMatches<'a>) -> FileRequest<'a> {
-    let (time, end) = if args.get_str(LIST).is_some() {
-        ("files", "time")
-    } else {
-        ("time", "end")
-    };
-    let format = args.get_str("format").and_then(|name| Format::named(name));
-    FileRequest {
-        command,
-        with_history: args.get_flag("with-history"),
-        with_deletions: args.get_flag("with-deletions"),
-        sorted: args.get_flag("sorted"),
-        time: args.get_str(time),
-        end: args.get_str(end),
-        format: format.unwrap_or(Format::Opl),
-    }
-}
-
-/// The shard for which the arguments ask.
-fn shard<'a>(args: &ArgMatches<'a>) -> Result<Option<Shard>, Refusal<'a>> {
-    let Some(shard) = args.get_str("shard") else {
-        return Ok(None);
-    };
-    match parse_shard(shard) {
-        Some(shard) => Ok(Some(shard)),
-        None => Err(Refusal::NotShard { shard }),
     }
 }

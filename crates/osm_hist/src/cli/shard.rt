@@ -1,12 +1,11 @@
 //! The argument of `--shard`, and the files that can be sharded.
-use super::files::Opened;
-use super::part::PartFile;
+use super::input::{CountBytes, OpenInput};
 use super::refusal::Refusal;
 use super::target::STANDARD;
 use osm_files::{Broken, ReadAt};
 use osm_mirror::Shard;
 use std::fs;
-use std::rt::Files;
+use std::io::Read;
 
 /// The first byte of o5 files.
 const O5_START: u8 = 0xff;
@@ -17,30 +16,25 @@ pub(super) fn parse_shard(text: &str) -> Option<Shard> {
     Shard::new(shard_number(number)?, shard_number(count)?)
 }
 
-/// Parses the digits of a number. A number above `u64::MAX` is `u64::MAX`.
+/// Parses the digits of a number.
 fn shard_number(text: &str) -> Option<u64> {
-    let mut number = 0_u64;
-    for byte in text.as_bytes() {
-        if !byte.is_ascii_digit() {
-            return None;
-        }
-        number = number
-            .saturating_mul(10)
-            .saturating_add(u64::from(*byte - b'0'));
+    if text.starts_with('+') {
+        None
+    } else {
+        text.parse().ok()
     }
-    Some(number)
 }
 
 /// Refuses names of files that aren't regular. So no pipe is opened, which would wait.
-pub(super) fn refuse_irregular<'a, R: Files>(rt: &R, names: &[&'a str]) -> Result<(), Refusal<'a>> {
+pub(super) fn refuse_irregular<'a>(rt: &HostRuntime, names: &[&'a str]) -> Result<(), Refusal<'a>> {
     for name in names {
-        if *name == STANDARD {
+        let is_regular = *name != STANDARD
+            && match fs::metadata(rt, *name) {
+                Ok(metadata) => metadata.is_file(),
+                Err(_) => return Err(Refusal::CannotRead { name: *name }),
+            };
+        if !is_regular {
             return Err(Refusal::NotRegular { name: *name });
-        }
-        match fs::metadata(rt, *name) {
-            Ok(metadata) if metadata.is_file() => {}
-            Ok(_) => return Err(Refusal::NotRegular { name: *name }),
-            Err(_) => return Err(Refusal::CannotRead { name: *name }),
         }
     }
     Ok(())
@@ -48,22 +42,22 @@ pub(super) fn refuse_irregular<'a, R: Files>(rt: &R, names: &[&'a str]) -> Resul
 
 /// Refuses open files that can't be sharded. The system has to know the size of each, and at least one has to be OPL. A
 /// file of `/proc` has bytes, though its size is 0.
-pub(super) fn check_shardable<'a, F: PartFile, I>(
-    names: &[&'a str],
-    files: &[Opened<F, I>],
+pub(super) fn check_shardable<'a, I: Read + Drop, M: CountBytes>(
+    inputs: &[OpenInput<'a, '_, I, M>],
 ) -> Result<(), Refusal<'a>> {
     let mut has_opl = false;
-    for (name, file) in names.iter().zip(files) {
-        let Opened::Regular(file, stamp) = file else {
-            return Err(Refusal::CannotRead { name: *name });
+    for input in inputs {
+        let name = input.name;
+        let Some((file, stamp)) = input.file() else {
+            return Err(Refusal::CannotRead { name });
         };
         match first_byte(file) {
             Ok(Some(_)) if stamp.size == 0 => {
-                stamp.refuse_changed(file.get_ref(), *name)?;
-                return Err(Refusal::NotRegular { name: *name });
+                input.refuse_changed()?;
+                return Err(Refusal::NotRegular { name });
             }
             Ok(first) => has_opl |= first != Some(O5_START),
-            Err(Broken) => return Err(Refusal::CannotRead { name: *name }),
+            Err(Broken) => return Err(Refusal::CannotRead { name }),
         }
     }
     if has_opl {

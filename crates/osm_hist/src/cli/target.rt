@@ -1,11 +1,13 @@
 //! Targets of a run: a file that the run makes, an existing pipe or device, or standard output.
+ghost use Rattle.std.specs.Prelude.{◌≡◌};
+
 use super::files::write_retried;
-use super::part::{FileId, OutPart, PartFile, folder_of, is_part};
+use super::part::{FileId, OutPart, folder_of, is_part};
 use super::refusal::Refusal;
+use either::{Either, Left, Right};
 use osm_files::Clear;
-use std::fs::{File, OpenFile};
-use std::io::{ErrorKind, Seek, Write};
-use std::rt::Files;
+use std::fs::File;
+use std::io::{ErrorKind, Seek, SeekFrom, Write};
 use std::{fs, io};
 
 /// The argument for standard input as an input file, and for standard output as OUT.
@@ -16,17 +18,16 @@ pub(super) const STANDARD: &str = "-";
 pub(super) enum Target<'a> {
     /// The file of this name. The run writes it as OUT.part and renames it at the end.
     File(&'a str),
-    /// The existing pipe or device of this name. The run writes it as it is.
-    Device(&'a str),
-    /// The regular file to which this name in `/dev` or `/proc` leads. The run appends to it.
-    Linked(&'a str),
+    /// An existing pipe or device, which the run writes as it is, or the regular file to which a name in `/dev` or
+    /// `/proc` leads. Then the run appends to it.
+    Existing { name: &'a str, appends: bool },
     /// Standard output.
     StandardOutput,
 }
 
 impl<'a> Target<'a> {
     /// The target that the argument of `--output` names.
-    pub(super) fn of_arg<R: Files + AllocGlobal>(rt: &R, arg: &'a str) -> Target<'a> {
+    pub(super) fn of_arg(rt: &HostRuntime, arg: &'a str) -> Target<'a> {
         if arg == STANDARD {
             Target::StandardOutput
         } else {
@@ -36,20 +37,23 @@ impl<'a> Target<'a> {
 
     /// The target with the name `name`. A name of standard output is standard output even if that is a file. Nothing is
     /// made or renamed in `/dev`, nor in `/proc` or a folder below it.
-    pub(super) fn of_name<R: Files + AllocGlobal>(rt: &R, name: &'a str) -> Target<'a> {
+    pub(super) fn of_name(rt: &HostRuntime, name: &'a str) -> Target<'a> {
         if can_be_made(rt, name)
             && let Some(target) = Target::of_system(rt, name)
         {
             return target;
         }
         match fs::metadata(rt, name) {
-            Ok(metadata) if !metadata.is_file() && !metadata.is_dir() => Target::Device(name),
+            Ok(metadata) if !metadata.is_file() && !metadata.is_dir() => Target::Existing {
+                name,
+                appends: false,
+            },
             _ => Target::File(name),
         }
     }
 
     /// The target with a name in `/dev`, in `/proc` or in a folder below it. Links of the folder are followed.
-    fn of_system<R: Files + AllocGlobal>(rt: &R, name: &'a str) -> Option<Target<'a>> {
+    fn of_system(rt: &HostRuntime, name: &'a str) -> Option<Target<'a>> {
         let folder = fs::canonicalize(rt, folder_of(name)).ok()?;
         let folder = folder.as_str();
         let last = name.rsplit_once('/').map_or(name, |(_, last)| last);
@@ -59,10 +63,8 @@ impl<'a> Target<'a> {
         if folder != "/dev" && folder != "/proc" && !folder.starts_with("/proc/") {
             return None;
         }
-        match fs::metadata(rt, name) {
-            Ok(metadata) if metadata.is_file() => Some(Target::Linked(name)),
-            _ => Some(Target::Device(name)),
-        }
+        let appends = fs::metadata(rt, name).is_ok_and(|metadata| metadata.is_file());
+        Some(Target::Existing { name, appends })
     }
 
     /// Refuses an input file that has the name of OUT.part.
@@ -78,63 +80,56 @@ impl<'a> Target<'a> {
     /// The name of the target in the line of a fault.
     pub(super) fn name(self) -> &'a str {
         match self {
-            Target::File(name) | Target::Device(name) | Target::Linked(name) => name,
+            Target::File(name) | Target::Existing { name, .. } => name,
             Target::StandardOutput => "standard output",
         }
     }
 
-    /// Opens the target: an OUT.part that is made for this run, an existing pipe or device, or standard output.
-    pub(super) fn open<R: Files + AllocGlobal, O: Drop>(
+    /// Opens the target: an OUT.part that is made for this run, an existing pipe or device, or standard output. None of
+    /// `inputs` may be OUT.part.
+    pub(super) fn open<O: Drop>(
         self,
-        rt: &R,
-        inputs: &[FileId],
+        rt: &HostRuntime,
+        inputs: &[Option<FileId>],
         out: O,
-    ) -> Result<Destination<R::File, O>, Refusal<'a>>
-    where
-        R::File: PartFile,
-    {
-        let (name, opened) = match self {
+    ) -> Result<Destination<'a, O>, Refusal<'a>> {
+        let (part, writer) = match self {
             Target::File(output) if !can_be_made(rt, output) => {
                 return Err(Refusal::CannotRename { output });
             }
             Target::File(output) => {
-                return OutPart::make(rt, output, inputs).map(|part| Destination::OutPart(part));
+                match OutPart::make(rt, output, inputs) {
+                    Ok((part, file)) => (Some(part), Left(file)),
+                    Err(refusal) => return Err(refusal),
+                }
             }
-            Target::StandardOutput => return Ok(Destination::Standard(out)),
-            Target::Device(name) => (name, File::options().write(true).open(rt, name)),
-            Target::Linked(name) => (name, File::options().append(true).open(rt, name)),
+            Target::Existing { name, appends } => {
+                let opened = File::options()
+                    .write(!appends)
+                    .append(appends)
+                    .open(rt, name);
+                let file = opened.map_err(|_| Refusal::CannotWrite { name })?;
+                (None, Left(file))
+            }
+            Target::StandardOutput => (None, Right(out)),
         };
-        match opened {
-            Ok(file) => Ok(Destination::Device(file)),
-            Err(_) => Err(Refusal::CannotWrite { name }),
-        }
-    }
-
-    /// Completes a run whose bytes were written: OUT.part becomes OUT.
-    pub(super) fn complete<R: Files, O>(
-        self,
-        rt: &R,
-        destination: &Destination<R::File, O>,
-        fsync: bool,
-    ) -> Result<(), Refusal<'a>>
-    where
-        R::File: PartFile,
-    {
-        match (self, destination) {
-            (Target::File(output), Destination::OutPart(part)) => part.complete(rt, output, fsync),
-            _ => Ok(()),
-        }
+        let error = None;
+        Ok(Destination {
+            part,
+            writer,
+            error,
+        })
     }
 }
 
 /// Whether a file of the name `name` can be made, as far as the name shows. A folder can't be replaced.
-fn can_be_made<R: Files>(rt: &R, name: &str) -> bool {
+fn can_be_made(rt: &HostRuntime, name: &str) -> bool {
     let is_folder = fs::symlink_metadata(rt, name).is_ok_and(|metadata| metadata.is_dir());
     !is_folder && !name.is_empty() && !name.ends_with('/')
 }
 
 /// Whether `folder` has the descriptors of this process.
-fn has_descriptors<R: Files + AllocGlobal>(rt: &R, folder: &str) -> bool {
+fn has_descriptors(rt: &HostRuntime, folder: &str) -> bool {
     match fs::canonicalize(rt, "/proc/self") {
         Ok(own) => folder.strip_prefix(own.as_str()).is_some_and(|rest| rest == "/fd"
             || rest.starts_with("/task/") && rest.ends_with("/fd")),
@@ -142,58 +137,83 @@ fn has_descriptors<R: Files + AllocGlobal>(rt: &R, folder: &str) -> bool {
     }
 }
 
-/// An open target.
+/// An open target, whose write errors are noted.
 #[derive(Drop)]
-pub(super) enum Destination<F, O> {
-    /// OUT.part, which becomes OUT.
-    OutPart(OutPart<F>),
-    /// A pipe or a device.
-    Device(F),
-    /// Standard output.
-    Standard(O),
+pub(super) struct Destination<'a, O> {
+    /// OUT.part, which becomes OUT, if the target is a file that the run makes.
+    part: Option<OutPart<'a>>,
+    /// The file, the pipe or the device; or else standard output.
+    writer: Either<File, O>,
+    /// The system's number of the last error, if a call failed and its error has a number.
+    pub(super) error: Option<i32>,
 }
 
-impl<F: PartFile + Seek + Write, O> Destination<F, O> {
-    /// Removes OUT.part after a refusal.
-    pub(super) fn discard<R: Files>(&self, rt: &R) {
-        if let Destination::OutPart(part) = self {
+impl<'a, O> Destination<'a, O> {
+    /// Ends a run with the outcome `written`: OUT.part becomes OUT, or is removed after a refusal.
+    pub(super) fn finish<T: Drop>(
+        &self,
+        rt: &HostRuntime,
+        written: Result<T, Refusal<'a>>,
+        fsync: bool,
+    ) -> Result<T, Refusal<'a>> {
+        let Some(part) = &self.part else {
+            return written;
+        };
+        let outcome = match (written, &self.writer) {
+            (Ok(done), Left(file)) => part.complete(rt, file, fsync).map(|()| done),
+            (written, _) => written,
+        };
+        if outcome.is_err() {
             part.discard(rt);
         }
+        outcome
+    }
+
+    /// Empties OUT.part.
+    fn empty(&mut self) -> io::Result<()> {
+        match &mut self.writer {
+            Left(file) if self.part.is_some() => {
+                file.seek(SeekFrom::Start(0))?;
+                file.set_len(0)
+            }
+            _ => Err(io::Error::from(ErrorKind::Unsupported)),
+        }
+    }
+
+    /// Notes the error of a call.
+    fn note<T>(&mut self, outcome: io::Result<T>) -> io::Result<T>
+        ensures { result ≡ outcome }
+    {
+        if let Err(error) = &outcome {
+            self.error = error.raw_os_error();
+        }
+        outcome
     }
 }
 
 /// OUT.part can be cleared and written again.
-impl<F: PartFile + Seek + Write, O: Write> Clear for Destination<F, O> {
-    ghost use Rattle.osm_hist.specs.Stream.{is_out_part};
+impl<O: Write> Clear for Destination<'_, O> {
+    ghost use Rattle.std.specs.Prelude.{is_some};
 
-    ghost can_clear = { is_out_part };
+    ghost can_clear = { λ s. is_some s.part };
 
     fn can_be_cleared(&self) -> bool {
-        matches!(self, Destination::OutPart(_))
+        self.part.is_some()
     }
 
     fn clear(&mut self) -> io::Result<()> {
-        match self {
-            Destination::OutPart(part) => part.empty(),
-            _ => Err(io::Error::from(ErrorKind::Unsupported)),
-        }
+        let outcome = self.empty();
+        self.note(outcome)
     }
 }
 
-impl<F: PartFile + Seek + Write, O: Write> Write for Destination<F, O> {
+impl<O: Write> Write for Destination<'_, O> {
     fn write(&mut self, bytes: &[u8]) -> io::Result<usize> {
-        match self {
-            Destination::OutPart(part) => write_retried(part.file(), bytes),
-            Destination::Device(file) => write_retried(file, bytes),
-            Destination::Standard(stream) => write_retried(stream, bytes),
-        }
+        let outcome = write_retried(&mut self.writer, bytes);
+        self.note(outcome)
     }
 
     fn flush(&mut self) -> io::Result<()> {
-        match self {
-            Destination::OutPart(part) => part.file().flush(),
-            Destination::Device(file) => file.flush(),
-            Destination::Standard(stream) => stream.flush(),
-        }
+        self.writer.flush()
     }
 }

@@ -1,14 +1,11 @@
 //! Tests of commands, each in its own folder: the exit status, the text that is printed, and the files that exist.
 //! `tests/commands` tests the built program.
-use super::part::{Lock, PartFile, take_lock};
+use super::part::unless_locked;
 use super::run_words;
 use std::alloc::Global;
-use std::fs::{File, Metadata, OpenFile, TryLockError};
+use std::fs::{File, TryLockError};
 use std::io::{ErrorKind, IsTerminal, Read, Write};
-use std::os::unix::fs::FileExt;
-use std::rt::Files;
 use std::test::Fail;
-use std::time::Clock;
 use std::{env, fs, io, str};
 
 /// The output of a merge of a.opl and b.opl.
@@ -95,14 +92,7 @@ impl IsTerminal for &mut Log {
 }
 
 /// The status of a command, and the text that it printed on standard output and standard error.
-fn outcome<R: Files + Clock + AllocGlobal, I: Read + Drop>(
-    rt: &R,
-    args: &[&str],
-    input: I,
-) -> String
-where
-    R::File: PartFile,
-{
+fn outcome<I: Read + Drop>(rt: &HostRuntime, args: &[&str], input: I) -> String {
     let mut out = Log::new(rt.alloc());
     let mut err = Log::new(rt.alloc());
     let status = run_words(rt, args, input, &mut out, &mut err);
@@ -127,7 +117,7 @@ fn enter(rt: &HostRuntime, folder: &str) -> io::Result<()> {
 }
 
 /// The text of the file `name`, or an empty text if it can't be read.
-fn content<R: Files + AllocGlobal>(rt: &R, name: &str) -> String {
+fn content(rt: &HostRuntime, name: &str) -> String {
     fs::read_to_string(rt, name).unwrap_or(String::new(rt.alloc()))
 }
 
@@ -202,10 +192,7 @@ fn standard_input(rt: HostRuntime) {
 }
 
 /// The status and the error text of a command whose standard output fails.
-fn unprinted<R: Files + Clock + AllocGlobal>(rt: &R, args: &[&str]) -> String
-where
-    R::File: PartFile,
-{
+fn unprinted(rt: &HostRuntime, args: &[&str]) -> String {
     let mut err = Log::new(rt.alloc());
     let status = run_words(rt, args, MERGED.as_bytes(), Broken, &mut err);
     let outcome = format!(in rt.alloc(); "{status} {}", text(&err.bytes));
@@ -288,64 +275,15 @@ fn out_part_belongs_to_one_run(rt: HostRuntime) -> Result<(), Fail> {
     Ok(())
 }
 
-/// A file that another run has locked if `is_held`. Else an attempt to lock it fails with the error `outcome`, if there
-/// is one.
-#[derive(Drop)]
-struct Locking {
-    outcome: Option<ErrorKind>,
-    is_held: bool,
-}
-
-impl OpenFile for Locking {
-    fn metadata(&self) -> io::Result<Metadata> {
-        Ok(Metadata::of_file(0))
-    }
-
-    fn set_len(&self, _size: u64) -> io::Result<()> {
-        Ok(())
-    }
-
-    fn sync_all(&self) -> io::Result<()> {
-        Ok(())
-    }
-
-    fn sync_data(&self) -> io::Result<()> {
-        Ok(())
-    }
-}
-
-impl FileExt for Locking {
-    fn read_at(&self, _buffer: &mut [u8], _offset: u64) -> io::Result<usize> {
-        Ok(0)
-    }
-
-    fn write_at(&self, bytes: &[u8], _offset: u64) -> io::Result<usize> {
-        Ok(bytes.len())
-    }
-}
-
-impl PartFile for Locking {
-    fn try_lock(&self) -> Result<(), TryLockError> {
-        match self.outcome {
-            _ if self.is_held => Err(TryLockError::WouldBlock),
-            Some(kind) => Err(TryLockError::Error(io::Error::from(kind))),
-            None => Ok(()),
-        }
-    }
-
-    fn set_owner(&self, _uid: Option<u32>, _gid: u32) -> io::Result<()> {
-        Ok(())
-    }
-}
-
 #[test]
 fn a_run_does_without_locks_where_there_are_none(rt: HostRuntime) {
-    for (outcome, is_held, wanted) in [
-        (None, false, Lock::Held),
-        (None, true, Lock::OfAnother),
-        (Some(ErrorKind::Unsupported), false, Lock::Held),
-        (Some(ErrorKind::Other), false, Lock::Failed),
+    let error = |kind: ErrorKind| Err(TryLockError::Error(io::Error::from(kind)));
+    for (attempt, wanted) in [
+        (Ok(()), Some(true)),
+        (Err(TryLockError::WouldBlock), None),
+        (error(ErrorKind::Unsupported), Some(true)),
+        (error(ErrorKind::Other), Some(false)),
     ] {
-        assert_eq!(rt; take_lock(&Locking { outcome, is_held }), wanted);
+        assert_eq!(rt; unless_locked(attempt).ok(), wanted);
     }
 }

@@ -2,7 +2,7 @@ use Rattle.std.proofs.Common.{◌≤◌, ◌<◌, ◌^◌, length, refl, ap, sym
 use Rattle.std.proofs.lemmas.Result.{err_from_is_err_and}
 use Rattle.osm_files.specs.FileRuns.{IfWhole}
 use Rattle.osm_files.specs.SortedRun.{FileRuns, IsSplitIntoRuns, runs_of}
-use Rattle.osm_files.proofs.FileRunLaws.{Found, found_nothing, knows, all_sorted, found_more, refused_rest}
+use Rattle.osm_files.proofs.FileRunLaws.{Found, found_nothing, knows, all_sorted, found_more, all_accepted, last_sorted, refused_rest}
 use Rattle.osm_files.proofs.OpenLaws.{known_has}
 use Rattle.osm_files.proofs.file_runs.find_runs.Goals as goal
 
@@ -31,7 +31,7 @@ runs-preserved g c =
       search rules,
       rw c.take.ensures.after (found_more (g.F.ReadAt.fails c.args.file.now) file c.args.size c.args.first c.runs.known c.runs.split
           c.split_before.new.split
-          c.in-Some.offset (omega (arith, split.fits)) c.runs.invariant.2 rest (split.fronts can) (split.rest can)),
+          c.in-Some.offset (omega (arith, split.fits)) c.runs.invariant.2 rest (split.fronts can) (split.accepted can) (split.rest can)),
     )
 
 pub returns-in_err-unsorted-clause-refused : goal.returns-in_err-unsorted-clause-refused
@@ -50,6 +50,20 @@ returns-in_default-clause-sorted g c =
     let rest = knows (g.F.ReadAt.fails c.args.file.now) file c.args.size c.rest.result c.runs.split.rest c.take.result c.runs.known _ _
     c.rest.ensures c.take.ensures.value
     (ap Ok c.in_default.is) c.in_ok-unsorted.ensures.known c.in_ok-unsorted.ensures.order in
-    all_sorted (g.F.ReadAt.fails c.args.file.now) file c.args.size c.runs.split c.runs.known c.args.first c.runs.invariant.2 rest
-    c.in_ok-into_runs.field-0.items
-    c.in_ok-into_runs.ensures
+    all_sorted (g.F.ReadAt.fails c.args.file.now) c.args.size c.runs.split c.runs.known c.args.first c.in_ok-into_runs.field-0.items
+    c.in_ok-into_runs.ensures file c.runs.invariant.2 rest
+
+pub returns-in_default-clause-last : goal.returns-in_default-clause-last
+returns-in_default-clause-last g c =
+    let file = g.F.ReadAt.bytes c.args.file.now in
+    let rest = knows (g.F.ReadAt.fails c.args.file.now) file c.args.size c.rest.result c.runs.split.rest c.take.result c.runs.known _ _
+    c.rest.ensures c.take.ensures.value
+    (ap Ok c.in_default.is) c.in_ok-unsorted.ensures.known c.in_ok-unsorted.ensures.order in
+    last_sorted (g.F.ReadAt.fails c.args.file.now) c.args.size c.runs.split c.runs.known c.args.first c.in_ok-into_runs.field-0.items
+    c.in_ok-into_runs.ensures file rest
+
+pub returns-in_default-clause-accepted : goal.returns-in_default-clause-accepted
+returns-in_default-clause-accepted g c =
+    let file = g.F.ReadAt.bytes c.args.file.now in
+    all_accepted (g.F.ReadAt.fails c.args.file.now) c.args.size c.runs.split c.runs.known c.args.first c.in_ok-into_runs.field-0.items
+    c.in_ok-into_runs.ensures file c.runs.invariant.2

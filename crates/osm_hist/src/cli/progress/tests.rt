@@ -52,7 +52,7 @@ fn read_at(clock: &TestClock, screen: &mut Screen, times: &[u64]) {
     meter.set_size(Some(1000));
     for time in times {
         clock.milliseconds.set(*time);
-        meter.count(100);
+        (&meter).count(100);
     }
 }
 
@@ -73,10 +73,8 @@ fn reports(alloc: Global, is_terminal: bool, times: &[u64]) -> String {
 
 #[test]
 fn progress_has_the_rest(rt: HostRuntime) {
-    let line = "30 %, 2:20 left, 300 of 1000 bytes, 0 versions read, 0 written, 0 MB/s\n\
-        50 %, 2:00 left, 500 of 1000 bytes, 0 versions read, 0 written, 0 MB/s\n";
-    let screen =
-        "\r\x1b[K\x1b[?7l20 %, 0:02 left, 200 of 1000 bytes, 0 versions read, 0 written, 0 MB/s\x1b[?7h";
+    let line = "30 %, 0 of 0 MB\n50 %, 0 of 0 MB\n";
+    let screen = "\r\x1b[K20 %, 0 of 0 MB";
     for (is_terminal, times, wanted) in [
         (
             false,

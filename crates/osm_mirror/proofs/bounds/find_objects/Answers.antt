@@ -21,7 +21,7 @@ returns-clause-found g c all held have holds =
     let step : c.max-step.result ≡ step_of c.args.count all =
     c.max-step.ensures ∙ ap (λ t. max (t / (16 * c.args.count)) 1) total in
     let is : found ≡ found_in_all (step_of c.args.count all) all =
-    c.in_ok-found.ensures all held have holds ∙ ap (λ s. found_in_all s all) step in
+    c.in_ok-found.ensures.found all held have holds ∙ ap (λ s. found_in_all s all) step in
     let moved : IsPermutation (found_in_all (step_of c.args.count all) all) sorted =
     subst (λ (xs : List Found). IsPermutation xs sorted) is c.sort_unstable_by.ensures.permutation in
     let same = sum_by-IsPermutation (λ f. f.weight) (found_in_all (step_of c.args.count all) all) sorted moved in

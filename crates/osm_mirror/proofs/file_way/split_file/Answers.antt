@@ -23,7 +23,7 @@ returns-in-Some-clause-fits g c =
           refl,
           refl,
           runs_sorted known size c.args.first c.in-Some.runs.items long right
-              (rw c.in-Some.is at c.in_ok-runs.ensures.sorted),
+              (rw c.in-Some.is at c.in_ok-runs.ensures.sorted) (rw c.in-Some.is at c.in_ok-runs.ensures.accepted),
         ),
       )),
       runs_fit known way c.in_ok-size.ensures.short long (rw c.in-Some.is at c.in_ok-runs.ensures.runs),

@@ -1,0 +1,63 @@
+-- The keys of OPL lines: own rules of this project.
+use Rattle.std.specs.Prelude.{◌≡◌, ◌⊎◌, ℕ, ℤ, Bool, true, false, not, ◌&&◌, ◌==◌, List, [], ◌∷◌, ◌++◌, unsigned_abs}
+use Rattle.std.specs.Prelude.{Option, Some, None, Result, Ok, Err}
+use Rattle.std.specs.declared.cmp.Ordering.{Ordering}
+use Rattle.std.specs.Ordering.{then_cmp, on, nat_cmp, bool_cmp, is_lt}
+use Rattle.osm_model.specs.Data.{VersionData, kind_of}
+use Rattle.osm_model.specs.Kind.{kind_order}
+use Rattle.osm_model.specs.Order.{is_positive}
+use Rattle.opl_line.specs.Content.{SpellsId, SpellsNumeral}
+use Rattle.opl_line.specs.Reading.{is_skipped}
+use Rattle.opl_line.specs.Spells.{Spells, SpellsNothing}
+use Rattle.opl_line.specs.declared.reason.OplReason.{OplReason}
+use Rattle.opl_line.specs.declared.reason.OplReason.TheVariants as opl
+use Rattle.osm_files.specs.declared.line_key.Key.{Key}
+
+-- the key of a version
+abbrev pub key_of : VersionData → Key
+key_of v = record { kind = kind_of v.body; id = v.id; number = v.number }
+
+-- the order of two keys: that of their versions
+abbrev pub keys_cmp : Key → Key → Ordering
+keys_cmp = then_cmp (then_cmp (then_cmp (on (λ k. kind_order k.kind) nat_cmp) (on (λ k. is_positive k.id) bool_cmp))
+    (on (λ k. unsigned_abs k.id) nat_cmp)) (on (λ k. k.number) nat_cmp)
+
+-- is the key below the key before it, if there is one?
+abbrev pub is_key_below : Key → Option Key → Bool
+is_key_below key None = false
+is_key_below key (Some before) = is_lt (keys_cmp key before)
+
+-- the line isn't skipped, and each version that it spells has this key
+abbrev pub IsKeyOf : List ℕ → Key → Type 0
+IsKeyOf line key = (is_skipped line ≡ false) × ((v : VersionData) → Spells line v → key_of v ≡ key)
+
+-- the result of reading the key of a line
+abbrev pub IsKeyRead : List ℕ → Result (Option Key) OplReason → Type 0
+IsKeyRead line (Ok (Some key)) = IsKeyOf line key
+IsKeyRead line (Ok None) = is_skipped line ≡ true
+IsKeyRead line (Err reason) = (reason ≡ opl.Memory) ⊎ SpellsNothing line
+
+-- ---- the parts of a line of the usual form
+-- a numeral, and then the rest
+abbrev pub BeginsWithNumeral : List ℕ → ℕ → List ℕ → Type 0
+BeginsWithNumeral text n rest = (digits : List ℕ) × (text ≡ digits ++ rest) × SpellsNumeral digits n
+
+-- an id, and then the rest
+abbrev pub BeginsWithId : List ℕ → ℤ → List ℕ → Type 0
+BeginsWithId text id rest = (field : List ℕ) × (text ≡ field ++ rest) × SpellsId field id
+
+-- does the line or a field end before this text?
+abbrev pub is_field_end : List ℕ → Bool
+is_field_end [] = true
+is_field_end (b ∷ bs) = b == 32
+
+-- ---- the keys of several versions
+-- do the keys of the versions not fall, from the key before them on?
+abbrev pub keys_rise : Option Key → List VersionData → Bool
+keys_rise before [] = true
+keys_rise before (v ∷ versions) = not (is_key_below (key_of v) before) && keys_rise (Some (key_of v)) versions
+
+-- the key of the last of the versions, or else the key before them
+abbrev pub last_key : Option Key → List VersionData → Option Key
+last_key before [] = before
+last_key before (v ∷ versions) = last_key (Some (key_of v)) versions

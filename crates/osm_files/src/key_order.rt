@@ -1,0 +1,238 @@
+//! The order of the lines of an OPL file by their keys. The lines are read in windows of the file.
+ghost use Rattle.std.specs.Prelude.{◌≡◌, ◌+◌, ◌<◌, ◌≤◌, ◌^◌, true, [], Ok, length, take, IfOk, IfErr, OnErr, IfSome};
+ghost use Rattle.osm_files.specs.Fault.{IsOfFile};
+ghost use Rattle.osm_files.specs.FileRuns.{IsReadFailure};
+ghost use Rattle.osm_files.specs.KeyOrder as spec;
+ghost use Rattle.osm_files.specs.ReadAt.{AreAt, AreLast};
+
+use crate::fault::Fault;
+use crate::input::Broken;
+use crate::line_key::{Key, read_key};
+use crate::read_at::ReadAt;
+use crate::reason::Reason;
+use opl_line::{LineReader, OplReason, find_line_end};
+use std::alloc::Global;
+
+/// The number of bytes of a window. A window is larger only if a line doesn't end in it.
+const WINDOW: u64 = 65536;
+
+/// Lines whose keys don't fall.
+#[derive(Clone, Copy, Debug)]
+struct RisingLines {
+    /// The offset of their end.
+    end: u64,
+    /// The key of their last version.
+    last: Option<Key>,
+}
+
+/// Why lines aren't read on.
+#[derive(Clone, Copy, Debug)]
+enum Stop {
+    /// The next line's key is below the key before it.
+    Falls,
+    /// The next line can't be read.
+    Refused(OplReason),
+}
+
+/// The offset of the line at which a reading stops, and the reason.
+#[derive(Clone, Copy, Debug)]
+struct StopAt {
+    place: u64,
+    why: Stop,
+}
+
+/// The offset of the first of the lines from `start` up to `end` of an OPL file whose key is below the key before it.
+/// Lines of the usual form aren't read further than their keys.
+///
+/// # Errors
+///
+/// The reason why a line before that offset can't be read, at the line's offset in the file. `ReadFault` if the file
+/// can't be read or is shorter; or `Memory`. `input` is the file's number.
+pub(crate) fn first_falling<F: ReadAt>(
+    alloc: Global,
+    file: &F,
+    input: usize,
+    start: u64,
+    end: u64,
+) -> Result<Option<u64>, Fault>
+    ensures order { IfSome (F.bytes file.now) (λ all. end ≤ length all
+        → spec.IsOrderOfLines (F.fails file.now) all start end result) }
+    ensures input { IfErr result (IsOfFile input) }
+{
+    let mut window = WINDOW;
+    let mut lines = RisingLines {
+        end: start,
+        last: None,
+    };
+    'windows: while lines.end < end {
+        let left = end - lines.end;
+        let count = left.min(window);
+        let bytes = read_exact(alloc, file, input, lines.end, count as usize)?;
+        match read_lines(alloc, &bytes, lines, count == left) {
+            Ok(read) => {
+                if read.end == lines.end {
+                    window = window.saturating_mul(2);
+                }
+                lines = read;
+            }
+            Err(stop) => return stop.outcome(input),
+        }
+    }
+    Ok(None)
+}
+
+impl StopAt {
+    /// The result of a search that stops so.
+    fn outcome(self, input: usize) -> Result<Option<u64>, Fault>
+        ensures { result ≡ spec.outcome_of input self }
+    {
+        match self.why {
+            Stop::Falls => Ok(Some(self.place)),
+            Stop::Refused(reason) => Err(Fault::at(input, self.place, Reason::from(reason))),
+        }
+    }
+}
+
+/// The `count` bytes of a file from `place` on.
+///
+/// # Errors
+///
+/// `ReadFault` if the file can't be read or is shorter; or `Memory`.
+fn read_exact<F: ReadAt>(
+    alloc: Global,
+    file: &F,
+    input: usize,
+    place: u64,
+    count: usize,
+) -> Result<Vec<u8>, Fault>
+    requires { place + count < 2 ^ 64 }
+    ensures count { IfOk result (λ bytes. length bytes.items ≡ count) }
+    ensures bytes { IfOk result (λ bytes. AreAt (F.bytes file.now) place bytes.items) }
+    ensures failure { IfErr result (λ fault. IfSome (F.bytes file.now) (λ all. place + count ≤ length all
+        → IsReadFailure (F.fails file.now) fault)) }
+    ensures input { IfErr result (IsOfFile input) }
+{
+    let mut bytes = Vec::new(alloc);
+    bytes.resize(count, 0)?;
+    let mut filled = 0;
+    'reads: while filled < count {
+        let at = place + filled as u64;
+        match read_part(file, at, &mut bytes, filled, count - filled) {
+            Ok(0) => return Err(Fault::at(input, at, Reason::ReadFault)),
+            Err(Broken) => return Err(Fault::at(input, at, Reason::ReadFault)),
+            Ok(more) => filled += more,
+        }
+    }
+    Ok(bytes)
+}
+
+/// Reads at most `most` bytes of a file from `place` on into `buffer[end..]`, and returns their number; 0 if there are
+/// none.
+fn read_part<F: ReadAt>(
+    file: &F,
+    place: u64,
+    buffer: &mut Vec<u8>,
+    end: usize,
+    most: usize,
+) -> Result<usize, Broken>
+    requires some { 0 < most }
+    requires within { end + most ≤ length buffer.old.items }
+    ensures came { IfOk result (λ count. spec.CameAt (F.bytes file.now) place
+        (take end buffer.old.items) (take (end + count) buffer.new.items) count) }
+    ensures most { IfOk result (λ count. count ≤ most) }
+    ensures end { result ≡ Ok 0 → AreLast (F.bytes file.now) place [] }
+    ensures broken { OnErr result (F.fails file.now) }
+    ensures size { length buffer.new.items ≡ length buffer.old.items }
+{
+    match file.read_at(&mut buffer[end..end + most], place) {
+        Ok(count) => Ok(count),
+        Err(broken) => Err(broken),
+    }
+}
+
+/// The lines of a file that end in `window`, whose bytes follow `lines`. If `is_last` is set, the last line ends where
+/// the window does.
+///
+/// # Errors
+///
+/// The first line that can't be read, or whose key is below the key before it.
+fn read_lines(
+    alloc: Global,
+    window: &[u8],
+    lines: RisingLines,
+    is_last: bool,
+) -> Result<RisingLines, StopAt>
+    requires { lines.end + length window.now < 2 ^ 64 }
+    ensures read { spec.ReadsLines window.now lines is_last result }
+    ensures within { IfOk result (λ read. spec.IsWithin window.now lines read) }
+    ensures last { IfOk result (λ read. is_last ≡ true → read.end ≡ lines.end + length window.now) }
+{
+    let mut reader = LineReader::new(alloc);
+    let mut last = lines.last;
+    let mut read = 0;
+    'lines: loop {
+        let rest = &window[read..];
+        let place = lines.end + read as u64;
+        let Some(size) = find_line_end(rest) else {
+            return end_lines(&mut reader, rest, RisingLines { end: place, last }, is_last);
+        };
+        match next_key(&mut reader, &rest[..size], last) {
+            Ok(next) => last = next,
+            Err(why) => return Err(StopAt { place, why }),
+        }
+        read += size + 1;
+    }
+}
+
+/// The lines after `rest`, which follows `lines` and has no line end. If `is_last` isn't set, more bytes follow, and
+/// `rest` isn't read.
+///
+/// # Errors
+///
+/// The line `rest`, if it can't be read, or its key is below the key before it.
+fn end_lines(
+    reader: &mut LineReader,
+    rest: &[u8],
+    lines: RisingLines,
+    is_last: bool,
+) -> Result<RisingLines, StopAt>
+    requires { lines.end + length rest.now < 2 ^ 64 }
+    ensures read { spec.EndsLines rest.now lines is_last result }
+{
+    if !is_last {
+        return Ok(lines);
+    }
+    match next_key(reader, rest, lines.last) {
+        Ok(last) => Ok(RisingLines {
+            end: lines.end + rest.len() as u64,
+            last,
+        }),
+        Err(why) => Err(StopAt {
+            place: lines.end,
+            why,
+        }),
+    }
+}
+
+/// The key of the last version up to a line, after versions of which `last` is the last key.
+///
+/// # Errors
+///
+/// Why the line isn't read, or that its key is below `last`.
+fn next_key(reader: &mut LineReader, line: &[u8], last: Option<Key>) -> Result<Option<Key>, Stop>
+    ensures { spec.StepsOver last line.now result }
+{
+    match read_key(reader, line) {
+        Ok(Some(key)) => {
+            if key.is_below(last) {
+                return Err(Stop::Falls);
+            }
+            Ok(Some(key))
+        }
+        Ok(None) => Ok(last),
+        Err(reason) => Err(Stop::Refused(reason)),
+    }
+}
+
+#[cfg(test)]
+mod tests;
