@@ -1,14 +1,14 @@
 """The program of crates/trials, which makes one call a run, and rows of its calls, for tests/{growth,devices,collisions,fuzz}.
 
-Run as a script, this file builds the program of crates/trials if it isn't up to date. The build needs the kit's command rt.
-Without rt the scripts that run the program skip their tests.
+Run as a module, in tests/ by `python3 -m lib.trials`, this file builds the program of crates/trials if it isn't up to date. The
+build needs the kit's command rt. Without rt the scripts that run the program skip their tests.
 """
 import shutil
 import subprocess
 import tempfile
 from pathlib import Path
 
-from counting import TOP, Counts
+from .counting import TOP, Counts
 
 CRATE = TOP / "crates/trials"
 MEMORY_FAULT = b"file 0, byte 0: Memory"
