@@ -49,7 +49,10 @@ fn reads_are_replayed(rt: HostRuntime) -> Result<(), Fail> {
         assert!(rt; false);
         return Ok(());
     };
-    assert_eq!(rt; (fault.input, fault.place, fault.reason), (1, 7, Reason::ReadFault));
+    assert_eq!(rt;
+        (fault.input, fault.place, fault.reason),
+        (1, 7, Reason::ReadFault)
+    );
     Ok(())
 }
 
