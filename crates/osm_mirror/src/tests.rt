@@ -11,7 +11,7 @@ use std::process::Abort;
 const FORMATS: [Format; 3] = [Format::Opl, Format::O5m, Format::O5c];
 
 /// A node and its deletion in o5m: 28 bytes, of which the last is the end byte.
-const NODE_THEN_DELETION: &[u8] =
+pub(crate) const NODE_THEN_DELETION: &[u8] =
     b"\xff\xe0\x04o5m2\x10\x0b\x02\x01\x02\x02\x00\x01\x00a\x00\x00\x00\x10\x05\x00\x02\x02\x00\x01\xfe";
 
 /// Two nodes, of which the second has the lesser key.
@@ -75,7 +75,7 @@ const MIXES: [Mix; 4] = [
 ];
 
 /// Readers of `files`.
-fn readers<'a>(alloc: Global, files: &'a [&'a [u8]]) -> Vec<SliceIn<'a>> {
+pub(crate) fn readers<'a>(alloc: Global, files: &'a [&'a [u8]]) -> Vec<SliceIn<'a>> {
     let mut inputs = Vec::new(alloc);
     for file in files {
         let _ = inputs.push(SliceIn::new(*file));
@@ -368,37 +368,38 @@ fn moment_seven(rt: HostRuntime) {
     assert_rows(&rt, MOMENTS);
 }
 
-const P: &[u8] =
+const PERIOD: &[u8] =
     b"n1 v1 t1970-01-01T00:00:10Z x1 y1\nn1 v2 t1970-01-01T00:00:20Z x2 y1\nn1 v3 dD t1970-01-01T00:00:30Z\n";
 
-const Q: &[u8] = b"n2 v1 t1970-01-01T00:00:20Z x1 y1\nn2 v2 t1970-01-01T00:00:20Z x2 y1\n";
+const OTHER_PERIOD: &[u8] =
+    b"n2 v1 t1970-01-01T00:00:20Z x1 y1\nn2 v2 t1970-01-01T00:00:20Z x2 y1\n";
 
 const PERIODS: &[Row] = &[
     (
         Command::PeriodFilter { from: 20, to: 30 },
-        &[P],
+        &[PERIOD],
         b"n1 v2 dV c0 t1970-01-01T00:00:20Z i0 u T x2 y1\n",
     ),
     (
         Command::PeriodFilter { from: 15, to: 31 },
-        &[P],
+        &[PERIOD],
         b"n1 v1 dV c0 t1970-01-01T00:00:10Z i0 u T x1 y1\nn1 v2 dV c0 t1970-01-01T00:00:20Z i0 u T x2 y1\n\
           n1 v3 dD c0 t1970-01-01T00:00:30Z i0 u T x y\n",
     ),
     (
         Command::PeriodFilter { from: 31, to: 40 },
-        &[P],
+        &[PERIOD],
         b"n1 v3 dD c0 t1970-01-01T00:00:30Z i0 u T x y\n",
     ),
-    (Command::PeriodFilter { from: 5, to: 10 }, &[P], b""),
+    (Command::PeriodFilter { from: 5, to: 10 }, &[PERIOD], b""),
     (
         Command::PeriodFilter { from: 20, to: 21 },
-        &[Q],
+        &[OTHER_PERIOD],
         b"n2 v1 dV c0 t1970-01-01T00:00:20Z i0 u T x1 y1\nn2 v2 dV c0 t1970-01-01T00:00:20Z i0 u T x2 y1\n",
     ),
     (
         Command::PeriodFilter { from: 21, to: 22 },
-        &[Q],
+        &[OTHER_PERIOD],
         b"n2 v2 dV c0 t1970-01-01T00:00:20Z i0 u T x2 y1\n",
     ),
     (

@@ -1,5 +1,6 @@
 //! Whole files merged, with their output and their faults worked out by hand.
 use crate::merge::run_merge;
+use crate::tests::{NODE_THEN_DELETION, readers};
 use osm_files::{Fault, Format, FromRead, Input, Reason, SliceIn, ToWrite, VecOut};
 use osm_merge::Counts;
 use std::alloc::Global;
@@ -12,15 +13,6 @@ const A: &[u8] = b"n1 v1 dV x1.5 y2\n";
 const B: &[u8] = b"n1 v2 dV x1.5 y3\n";
 
 const BOTH: &[u8] = b"n1 v1 dV c0 t i0 u T x1.5 y2\nn1 v2 dV c0 t i0 u T x1.5 y3\n";
-
-/// Readers of `files`.
-fn readers<'a>(alloc: Global, files: &'a [&'a [u8]]) -> Vec<SliceIn<'a>> {
-    let mut inputs = Vec::new(alloc);
-    for file in files {
-        let _ = inputs.push(SliceIn::new(*file));
-    }
-    inputs
-}
 
 /// The result of a merge of `inputs` in the format `format`, and the bytes that it wrote.
 fn merged<R: Input + Drop>(
@@ -280,10 +272,6 @@ const HOSTILE: &[Row] = &[
 fn hostile_numbers(rt: HostRuntime) {
     assert_rows(&rt, HOSTILE);
 }
-
-/// A node and its deletion in o5m.
-const NODE_THEN_DELETION: &[u8] =
-    b"\xff\xe0\x04o5m2\x10\x0b\x02\x01\x02\x02\x00\x01\x00a\x00\x00\x00\x10\x05\x00\x02\x02\x00\x01\xfe";
 
 /// The text of a merge of the first `length` bytes of `NODE_THEN_DELETION`.
 fn cut_text(alloc: Global, length: usize) -> String {

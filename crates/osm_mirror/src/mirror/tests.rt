@@ -1,16 +1,13 @@
 //! Mirrors over small files, with their output worked out by hand.
 use super::Mirror;
 use crate::keep::{Keep, Taken};
+use crate::tests::NODE_THEN_DELETION;
 use osm_files::{Fault, Format};
 use std::alloc::Global;
 
 const CREATED: &[u8] = b"n1 v1 dV x1 y1\n";
 
 const DELETED: &[u8] = b"n1 v2 dD\n";
-
-/// A node and its deletion in o5m: 28 bytes, of which the last is the end byte.
-const NODE_THEN_DELETION: &[u8] =
-    b"\xff\xe0\x04o5m2\x10\x0b\x02\x01\x02\x02\x00\x01\x00a\x00\x00\x00\x10\x05\x00\x02\x02\x00\x01\xfe";
 
 /// A mirror that keeps `keep`, and holds nothing yet.
 fn new_mirror(alloc: Global, keep: Keep) -> Mirror {
