@@ -19,7 +19,7 @@ use Rattle.osm_files.specs.declared.sorted_run.SortedRun.{SortedRun}
 use Rattle.osm_files.specs.FileRuns.{GivesSortedFile, IsSortedRun, EndsWhole, StopsSource, IfWhole, IsAccepted, LastIsSorted}
 use Rattle.osm_files.specs.FileRuns.{IsAcceptedRun, IsSortedIfAccepted, IsFirstUnsorted, IsFirstUnsortedIn, IsReadFailure, IsRefusalOf}
 use Rattle.osm_files.specs.FileRuns.{IsOrderOf, is_lines, BreaksAt, IsBreakOf}
-use Rattle.osm_files.specs.KeyOrder.{lines_between, IsOrderOfLines}
+use Rattle.osm_files.specs.KeyOrder.{bytes_between, IsOrderOfLines}
 use Rattle.osm_files.specs.Groups.{FileCanGive, new_source, sorted_source}
 use Rattle.osm_files.specs.Held.{HoldsSorted}
 use Rattle.osm_files.specs.Input.{InputRest, GivesOne}
@@ -402,7 +402,7 @@ own_bytes run all header end =
 -- a run may be longer than its file
 within_file : (run : SortedRun) (all : List ℕ) (end : ℕ) → length all < 2 ^ 64
     → end ≡ min (min (run.start + run.size) (2 ^ 64 - 1)) (length all)
-    → take run.size (drop run.start all) ≡ lines_between all run.start end
+    → take run.size (drop run.start all) ≡ bytes_between all run.start end
 within_file run all end short is =
     let part : List ℕ = drop run.start all in
     let long : length part ≡ length all - run.start = length-drop run.start all in
@@ -431,7 +431,7 @@ module _ (Fails : Type 0) (run : SortedRun) (first : Option ℕ) (lines : is_lin
     opl : (n : ℕ) → start_of (take n (drop run.start all)) ≡ InOpl
     opl n = starts_as_lines all run.start n (ap is_reset there ∙ (are_lines run first lines).start)
 
-    bytes_are : run_bytes run all ≡ lines_between all run.start end
+    bytes_are : run_bytes run all ≡ bytes_between all run.start end
     bytes_are =
         own_bytes run all (are_lines run first lines).header (are_lines run first lines).end
         ∙ within_file run all end (omega (arith, short, whole)) (is ∙ ap (min (min (run.start + run.size) (2 ^ 64 - 1))) (sym whole))
@@ -439,14 +439,14 @@ module _ (Fails : Type 0) (run : SortedRun) (first : Option ℕ) (lines : is_lin
     by_search : (result : Result (Option ℕ) Fault) → IsOrderOfLines Fails all run.start end result → IsBreakOf Fails all run result
     by_search (Ok None) (after, rise) = λ accepted.
         subst (λ bytes. (held : VersionSet) × HoldsSorted bytes held) (sym bytes_are)
-        (rising_file (lines_between all run.start end) after (opl (end - run.start)) rise (subst IsAccepted bytes_are accepted))
+        (rising_file (bytes_between all run.start end) after (opl (end - run.start)) rise (subst IsAccepted bytes_are accepted))
     by_search (Ok (Some offset)) (after, rise) = inr (λ accepted.
         let n : ℕ = offset - run.start in
         let less : offset - run.start - 0 ≡ n = omega arith in
-        let same : run_bytes (front_run false run offset) all ≡ lines_between all run.start offset =
+        let same : run_bytes (front_run false run offset) all ≡ bytes_between all run.start offset =
         own_bytes (front_run false run offset) all (are_lines run first lines).header refl ∙ ap (λ m. take m (drop run.start all)) less in
         subst (λ bytes. (held : VersionSet) × HoldsSorted bytes held) (sym same)
-        (rising_file (lines_between all run.start offset) after (opl n) rise (subst IsAccepted same accepted)))
+        (rising_file (bytes_between all run.start offset) after (opl n) rise (subst IsAccepted same accepted)))
     by_search (Err fault) (inl failure) = inl failure
     by_search (Err fault) (inr never) = inr (λ accepted.
         let a = subst IsAccepted bytes_are accepted in

@@ -46,4 +46,6 @@ pub mod JoinLaws
 mod RestLaws
 mod LineKeyLaws
 mod KeyOrderLaws
+mod SetKeyLaws
+mod SetOrderLaws
 mod FileRunLaws

@@ -23,6 +23,8 @@ pub mod FileInput
 pub mod FileRuns
 pub mod LineKey
 pub mod KeyOrder
+pub mod SetKey
+pub mod SetOrder
 pub mod Lines
 pub mod Verdict
 pub mod Laws
