@@ -22,7 +22,7 @@ use Rattle.osm_files.specs.declared.key_order.Stop.TheVariants.{Falls, Refused}
 use Rattle.osm_files.specs.declared.key_order.StopAt.{StopAt}
 use Rattle.osm_files.specs.declared.line_key.Key.{Key}
 use Rattle.osm_files.specs.FileRuns.{IsAccepted, IsReadFailure}
-use Rattle.osm_files.specs.Held.{HoldsSorted}
+use Rattle.osm_files.specs.Held.{Holds, HoldsSorted}
 use Rattle.osm_files.specs.KeyOrder.{CameAt, AreRising, Rise, IsNoFile, EndsLine, StepsOver, lines_to, StopsIn, ReadsLines, IsWithin}
 use Rattle.osm_files.specs.KeyOrder.{EndsLines, bytes_between, IsOrderOfLines, outcome_at, outcome_of}
 use Rattle.osm_files.specs.LineKey.{key_of, is_key_below, IsKeyOf, keys_rise}
@@ -55,20 +55,26 @@ rising_rise (Some w) (v ∷ versions) h =
       rising_rise (Some v) versions parts.1,
     )
 
+-- A file whose keys don't fall is sorted.
+pub sorted_if_rising : (bytes : List ℕ) (held : VersionSet) (h : Holds bytes held) (after : Option Key)
+    → AreRising None h.versions after → (held : VersionSet) × HoldsSorted bytes held
+sorted_if_rising bytes held h after rise = (
+  held,
+  record {
+    short = h.short;
+    versions = h.versions;
+    file = h.file;
+    sorted = rises_sorted h.versions (rising_rise None h.versions rise.0);
+    members = h.members;
+  },
+)
+
 -- Lines whose keys don't fall are a sorted file, if they are accepted.
 pub rising_file : (bytes : List ℕ) (after : Option Key) → start_of bytes ≡ InOpl → Rise None bytes after → IsAccepted bytes
     → (held : VersionSet) × HoldsSorted bytes held
 rising_file bytes after opl rise (held, h) =
-    let lines : OplFile bytes h.versions = rw opl at h.file in (
-      held,
-      record {
-        short = h.short;
-        versions = h.versions;
-        file = h.file;
-        sorted = rises_sorted h.versions (rising_rise None h.versions (rise h.versions lines).0);
-        members = h.members;
-      },
-    )
+    let lines : OplFile bytes h.versions = rw opl at h.file in
+    sorted_if_rising bytes held h after (rise h.versions lines)
 
 -- ---- lines in sequence
 ends_both : (xs ys : List ℕ) → EndsLine xs → EndsLine ys → EndsLine (xs ++ ys)

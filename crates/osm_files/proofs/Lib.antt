@@ -48,4 +48,6 @@ mod LineKeyLaws
 mod KeyOrderLaws
 mod SetKeyLaws
 mod SetOrderLaws
+mod KeyedFileLaws
+mod RunSetsLaws
 mod FileRunLaws

@@ -1,14 +1,15 @@
 -- The keys of data sets are those of the versions that the data sets spell.
-use Rattle.std.proofs.Common.{◌≡◌, ℕ, ℤ, min, suc, ◌+◌, ◌-◌, ◌≤◌, ◌==◌, true, false, List, [], ◌∷◌, ◌++◌, length, take, drop, Option, Some}
-use Rattle.std.proofs.Common.{None, Ok, Err, refl, sym, ap, ◌∙◌, subst, arith, append_assoc, length-append, length-take}
+use Rattle.std.proofs.Common.{◌≡◌, ℕ, ℤ, min, suc, ◌+◌, ◌-◌, ◌≤◌, true, List, ◌∷◌, ◌++◌, length, take, drop, Some}
+use Rattle.std.proofs.Common.{None, Ok, refl, sym, ap, ◌∙◌, subst, arith, append_assoc, length-append, length-take}
 use Rattle.std.proofs.Math.Seq.{take-append-add}
 use Rattle.std.proofs.lemmas.List.{take-append-drop, take-append-le, take-take}
 use Rattle.osm_model.specs.declared.kind.Kind.{Kind}
 use Rattle.o5_codec.specs.Number.{SpellsNumber, unsigned_of, number_at}
 use Rattle.o5_codec.specs.Spelling.{NumberAtFront}
 use Rattle.o5_codec.proofs.NumberLaws.{number_found}
-use Rattle.osm_files.specs.O5.{type_byte, kind_of_type, is_lone, Lone, Skipped, Object}
-use Rattle.osm_files.specs.SetKey.{BeginsWithKey, IsPartOf, IsSetType}
+use Rattle.osm_files.specs.FirstFault.{IsSetType}
+use Rattle.osm_files.specs.O5.{kind_of_type, is_lone, Lone, Skipped, Object}
+use Rattle.osm_files.specs.SetKey.{BeginsWithKey, IsPartOf}
 use Rattle.osm_files.proofs.PartLaws.{byte_of}
 
 -- ---- more bytes after the key

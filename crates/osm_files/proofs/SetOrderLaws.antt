@@ -150,3 +150,10 @@ keyed_up_to (Some all) start end place sets same done = λ long. (
   sets.last,
   subst (λ n. AreKeyedSets (pos 0) None (take n (drop start all)) sets.base sets.last) same (done long).keyed,
 )
+
+-- The sets before one whose key falls are keyed.
+pub keyed_before : (known : Option (List ℕ)) (start end : ℕ) (sets : RisingSets)
+    → IfSome known (λ all. end ≤ length all → SetsTo all start sets)
+    → IfSome known (λ all. end ≤ length all → (start ≤ sets.end) × StartKeyedSets (bytes_between all start sets.end))
+keyed_before None start end sets done = tt
+keyed_before (Some all) start end sets done = λ long. ((done long).after, (sets.base, sets.last, (done long).keyed))

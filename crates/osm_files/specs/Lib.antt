@@ -24,6 +24,7 @@ pub mod FileRuns
 pub mod LineKey
 pub mod KeyOrder
 pub mod SetKey
+pub mod RunBreaks
 pub mod SetOrder
 pub mod Lines
 pub mod Verdict

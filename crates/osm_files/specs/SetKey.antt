@@ -1,5 +1,5 @@
 -- The keys of the data sets of o5 files: own rules of this project.
-use Rattle.std.specs.Prelude.{◌≡◌, ◌⊎◌, ℕ, ℤ, pos, ◌+◌, ◌<◌, ◌≤◌, ◌==◌, true, false, List, [], ◌∷◌, ◌++◌, length, take}
+use Rattle.std.specs.Prelude.{◌≡◌, ◌⊎◌, ℕ, ℤ, pos, true, false, List, [], ◌∷◌, ◌++◌, length}
 use Rattle.std.specs.Prelude.{Option, Some, None, Ok}
 use Rattle.std.specs.List.{flat_map}
 use Rattle.o5_codec.specs.Base.{moved_id}
@@ -8,17 +8,14 @@ use Rattle.o5_codec.specs.Spelling.{NumberAtFront, SignedAtFront}
 use Rattle.osm_files.specs.declared.line_key.Key.{Key}
 use Rattle.osm_files.specs.declared.set_key.KeyPart.{KeyPart}
 use Rattle.osm_files.specs.LineKey.{is_key_below}
-use Rattle.osm_files.specs.O5.{o5m_header, o5c_header, end_byte, reset_byte, is_lone, IsOtherType, FilePart, Reset, Lone, Skipped, Object}
-use Rattle.osm_files.specs.O5.{part_bytes}
+use Rattle.osm_files.specs.O5.{o5m_header, o5c_header, end_byte, is_lone, IsOtherType, FilePart}
+use Rattle.osm_files.specs.O5.{Reset, Lone, Skipped, Object, part_bytes}
 
 -- the content of a data set begins with this id, by its difference to the base, and with this version number
 abbrev pub BeginsWithKey : ℤ → List ℕ → ℤ → ℕ → Type 0
-BeginsWithKey base content id number = (difference : ℤ) × (after rest : List ℕ) × SignedAtFront content (difference, after)
-    × (moved_id base difference ≡ Ok id) × NumberAtFront after (number, rest)
-
--- the type byte of a data set
-abbrev pub IsSetType : ℕ → Type 0
-IsSetType b = ((b == end_byte) ≡ false) × ((b == reset_byte) ≡ false) × (is_lone b ≡ false)
+BeginsWithKey base content id number = (difference : ℤ) × (after rest : List ℕ)
+    × SignedAtFront content (difference, after) × (moved_id base difference ≡ Ok id)
+    × NumberAtFront after (number, rest)
 
 -- The key of a part of a file, none if the part is of no object, and the base of ids after the part. `base` is the base
 -- before it.

@@ -1,12 +1,14 @@
 //! The keys of the data sets of o5 files: the kind, the id and the number of the version that a data set spells.
 //!
-//! Why: a search for sorted runs compares only keys, so the rest of a data set needn't be read. No string table is kept.
+//! Why: a search for sorted runs compares only keys, so the rest of a data set needn't be read, and no string table is
+//! kept.
 //! Assumes: a data set of the usual form has a length that is there, and content that begins with an id and a version
 //! number.
 //! Otherwise: no part is read, and the caller reads the run whole.
 //! Compared by: `keys_are_those_of_whole_sets`.
 ghost use Rattle.std.specs.Prelude.{◌≡◌, ◌+◌, ◌<◌, ◌≤◌, ◌∷◌, ◌++◌, Ok, None, List, ℕ, length, take, IfSome};
 ghost use Rattle.o5_codec.specs.Base.{moved_id};
+ghost use Rattle.osm_files.specs.FirstFault.{IsSetType};
 ghost use Rattle.osm_files.specs.SetKey as spec;
 
 use crate::line_key::Key;
@@ -62,7 +64,7 @@ fn one_byte(base: i64) -> KeyPart
 
 /// The data set of the type `type_byte`, which `bytes` follow.
 fn read_set(type_byte: u8, bytes: &[u8], base: i64, room: u64) -> Option<KeyPart>
-    requires { spec.IsSetType type_byte }
+    requires { IsSetType type_byte }
     ensures size { IfSome result (λ part. 0 < part.size) }
     ensures within { IfSome result (λ part. part.size ≤ room) }
     ensures part { IfSome result (λ part. (rest : List ℕ) → part.size ≤ length (type_byte ∷ (bytes.now ++ rest))
@@ -113,3 +115,6 @@ fn moved_id(base: i64, difference: i64) -> Option<i64>
     let id = base.checked_add(difference)?;
     if is_id(id) { Some(id) } else { None }
 }
+
+#[cfg(test)]
+mod tests;

@@ -1,15 +1,20 @@
-//! The order of the data sets of an o5 file by their keys. The data sets are read in windows of the file. The bytes of a
-//! data set after a window are skipped.
+//! The order of the data sets of an o5 file by their keys. The data sets are read in windows of the file, and the bytes
+//! of a data set after a window are skipped.
 ghost use Rattle.std.specs.Prelude.{◌≡◌, ◌+◌, ◌≤◌, ◌<◌, ◌^◌, ◌++◌, List, ℕ, length, IfOk, IfErr, IfSome};
 ghost use Rattle.osm_files.specs.Fault.{IsOfFile};
-ghost use Rattle.osm_files.specs.FileRuns.{IsReadFailure};
+ghost use Rattle.osm_files.specs.FileRuns.{IsReadFailure, IfWhole};
 ghost use Rattle.osm_files.specs.SetOrder as spec;
 
 use crate::fault::Fault;
+use crate::file_runs::byte_at;
+use crate::input::Broken;
 use crate::key_order::{WINDOW, read_exact};
 use crate::line_key::Key;
 use crate::read_at::ReadAt;
+use crate::reason::Reason;
 use crate::set_key::{KeyPart, read_part};
+use crate::sorted_run::SortedRun;
+use crate::unit::{FILE_END, is_header};
 use std::alloc::Global;
 
 /// The order of data sets by their keys.
@@ -57,12 +62,104 @@ impl RisingSets {
     }
 }
 
+/// The order of the data sets of a run of a file, which has `size` bytes. It is `Unknown` if the run isn't a header,
+/// parts of the usual form and an end.
+///
+/// # Errors
+///
+/// `ReadFault` if the file can't be read; or `Memory`. `input` is the file's number.
+pub(crate) fn order_of_run<F: ReadAt>(
+    alloc: Global,
+    file: &F,
+    input: usize,
+    size: u64,
+    run: SortedRun,
+) -> Result<SetOrder, Fault>
+    ensures order { IfWhole (F.bytes file.now) size (λ all. spec.IsOrderOfRun (F.fails file.now) all run result) }
+    ensures input { IfErr result (IsOfFile input) }
+{
+    let end = run.start.saturating_add(run.size).min(size);
+    let Some(first) = first_set(alloc, file, input, run, end)? else {
+        return Ok(SetOrder::Unknown);
+    };
+    let Some(last) = end_of_sets(file, input, run, end)? else {
+        return Ok(SetOrder::Unknown);
+    };
+    if last < first {
+        return Ok(SetOrder::Unknown);
+    }
+    order_of_sets(alloc, file, input, first, last)
+}
+
+/// The offset of the first data set of a run that ends at the offset `end`, after the run's header; `None` if it has no
+/// header.
+///
+/// # Errors
+///
+/// `ReadFault` if the file can't be read or is shorter; or `Memory`.
+fn first_set<F: ReadAt>(
+    alloc: Global,
+    file: &F,
+    input: usize,
+    run: SortedRun,
+    end: u64,
+) -> Result<Option<u64>, Fault>
+    ensures header { IfOk result (λ found. IfSome found (λ offset.
+        IfSome (F.bytes file.now) (λ all. spec.HasHeader all run offset))) }
+    ensures failure { IfErr result (λ fault. IfSome (F.bytes file.now) (λ all. end ≤ length all
+        → IsReadFailure (F.fails file.now) fault)) }
+    ensures input { IfErr result (IsOfFile input) }
+{
+    if run.lacks_header {
+        return Ok(Some(run.start));
+    }
+    if end < run.start || end - run.start < 7 {
+        return Ok(None);
+    }
+    let header = read_exact(alloc, file, input, run.start, 7)?;
+    if is_header(&header) {
+        Ok(Some(run.start + 7))
+    } else {
+        Ok(None)
+    }
+}
+
+/// The offset of the end of the data sets of a run that ends at the offset `end`, before the end byte if the run has
+/// one in the file; `None` if no end byte is there.
+///
+/// # Errors
+///
+/// `ReadFault` if the file can't be read.
+fn end_of_sets<F: ReadAt>(
+    file: &F,
+    input: usize,
+    run: SortedRun,
+    end: u64,
+) -> Result<Option<u64>, Fault>
+    ensures end { IfOk result (λ found. IfSome found (λ offset.
+        IfSome (F.bytes file.now) (λ all. spec.HasEnd all run end offset))) }
+    ensures failure { IfErr result (λ fault. IsReadFailure (F.fails file.now) fault) }
+    ensures input { IfErr result (IsOfFile input) }
+{
+    if run.lacks_end {
+        return Ok(Some(end));
+    }
+    if end == 0 {
+        return Ok(None);
+    }
+    match byte_at(file, end - 1) {
+        Ok(Some(FILE_END)) => Ok(Some(end - 1)),
+        Ok(_) => Ok(None),
+        Err(Broken) => Err(Fault::at(input, end - 1, Reason::ReadFault)),
+    }
+}
+
 /// The order of the data sets of an o5 file from the offset `start`, after the header or a reset, up to `end`.
 ///
 /// # Errors
 ///
 /// `ReadFault` if the file can't be read or is shorter; or `Memory`. `input` is the file's number.
-pub(crate) fn order_of_sets<F: ReadAt>(
+fn order_of_sets<F: ReadAt>(
     alloc: Global,
     file: &F,
     input: usize,
@@ -119,3 +216,6 @@ fn read_sets(window: &[u8], sets: RisingSets, end: u64) -> Result<RisingSets, Ri
     }
     Ok(read)
 }
+
+#[cfg(test)]
+mod tests;

@@ -111,7 +111,8 @@ fn read_header(bytes: &[u8]) -> Result<Option<ReadUnit>, Reason>
     no_version(7)
 }
 
-fn is_header(bytes: &[u8]) -> bool
+/// Whether `bytes` are the header of o5m or of o5c.
+pub(crate) fn is_header(bytes: &[u8]) -> bool
     ensures { result ≡ spec.is_header bytes.now }
 {
     bytes == O5M_HEADER.as_slice() || bytes == O5C_HEADER.as_slice()
