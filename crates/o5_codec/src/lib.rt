@@ -19,7 +19,7 @@ mod write;
 pub use decoder::Decoder;
 pub use encoder::Encoder;
 pub use fault::EncodeFault;
-pub use number::read_number;
+pub use number::{read_number, read_signed};
 pub use reason::O5Reason;
 
 #[cfg(test)]

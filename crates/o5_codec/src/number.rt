@@ -139,7 +139,7 @@ pub(crate) fn count_ended(bytes: &[u8]) -> usize {
 /// As for [`read_number`].
 #[inline(always)]
 #[tactic(auto, unfolding(crate::specs::Number::signed_at))]
-pub(crate) fn read_signed(bytes: &[u8]) -> Result<(i64, &[u8]), O5Reason>
+pub fn read_signed(bytes: &[u8]) -> Result<(i64, &[u8]), O5Reason>
     ensures value { O5Gives (λ x. (x.0, x.1.now)) (signed_at bytes.now) result }
     ensures shorter { IfOk result (λ x. length x.1.now < length bytes.now) }
 {

@@ -4,9 +4,8 @@ use Rattle.std.proofs.Common.{◌++◌}
 use Rattle.std.proofs.Common.{Option, Some, None, IfSome, is_some, Result, Ok, Err, length, take, drop, refl, sym, ap, ◌∙◌, subst, arith}
 use Rattle.std.proofs.Common.{append-nil, min, slice_get, suc, zero, ◌||◌, length-append, length-drop, length-take}
 use Rattle.std.proofs.Math.Seq.{take-append_seam}
-use Rattle.std.proofs.lemmas.Bool.{cases_lt, false≢true, and_parts, ltb-true, not-true}
+use Rattle.std.proofs.lemmas.Bool.{false≢true, and_parts, ltb-true, not-true}
 use Rattle.std.proofs.lemmas.List.Elements.{All-nil, All-cons, All-append}
-use Rattle.std.proofs.lemmas.List.{take_all}
 use Rattle.std.proofs.lemmas.Option.{slice_get_within}
 use Rattle.std.specs.List.{All}
 use Rattle.osm_model.specs.Data.{VersionData}
@@ -14,19 +13,24 @@ use Rattle.osm_model.specs.Order.{version_cmp}
 use Rattle.osm_model.specs.Sets.{from_list}
 use Rattle.osm_model.specs.VersionSet.{VersionSet}
 use Rattle.osm_files.specs.declared.fault.Fault.{Fault}
+use Rattle.osm_files.specs.declared.set_order.SetOrder.{SetOrder}
+use Rattle.osm_files.specs.declared.set_order.SetOrder.TheVariants.{Rises, Falls, Unknown}
 use Rattle.osm_files.specs.declared.sorted_run.BytesAtSplit.{BytesAtSplit}
 use Rattle.osm_files.specs.declared.sorted_run.SortedRun.{SortedRun}
 use Rattle.osm_files.specs.FileRuns.{GivesSortedFile, IsSortedRun, EndsWhole, StopsSource, IfWhole, IsAccepted, LastIsSorted}
 use Rattle.osm_files.specs.FileRuns.{IsAcceptedRun, IsSortedIfAccepted, IsFirstUnsorted, IsFirstUnsortedIn, IsReadFailure, IsRefusalOf}
-use Rattle.osm_files.specs.FileRuns.{IsOrderOf, is_lines, BreaksAt, IsBreakOf}
-use Rattle.osm_files.specs.KeyOrder.{lines_between, IsOrderOfLines}
+use Rattle.osm_files.specs.FileRuns.{IsOrderOf, is_lines}
+use Rattle.osm_files.specs.RunBreaks.{IsSortedByKeys, BreaksAt, IsBreakOf}
+use Rattle.osm_files.specs.KeyOrder.{bytes_between, IsOrderOfLines}
 use Rattle.osm_files.specs.Groups.{FileCanGive, new_source, sorted_source}
 use Rattle.osm_files.specs.Held.{HoldsSorted}
 use Rattle.osm_files.specs.Input.{InputRest, GivesOne}
 use Rattle.osm_files.specs.Load.{StopsOpening}
 use Rattle.osm_files.specs.O5.{o5m_header, end_byte}
 use Rattle.osm_files.specs.Position.{units_from}
-use Rattle.osm_files.specs.SortedRun.{HasBytes, FileRuns, runs_of, run_bytes, bytes_before, bytes_after, whole_run, is_reset, is_o5_run}
+use Rattle.osm_files.specs.SetOrder.{IsOrderOfRun}
+use Rattle.osm_files.specs.SortedRun.{HasBytes, SplitAtReset, FileRuns, runs_of, run_bytes, bytes_before, bytes_after, whole_run}
+use Rattle.osm_files.specs.SortedRun.{is_reset, is_o5_run}
 use Rattle.osm_files.specs.SortedRun.{is_within}
 use Rattle.osm_files.specs.SortedRun.{can_split, front_run, rest_run, split_run, after_split}
 use Rattle.osm_files.specs.Source.{SourceStep}
@@ -36,7 +40,9 @@ use Rattle.osm_files.proofs.FaultyLaws.{broken_is_refused}
 use Rattle.osm_files.proofs.HoldLaws.{whole_source_is_held}
 use Rattle.osm_files.proofs.JoinLaws.{split_starts}
 use Rattle.osm_files.proofs.KeyOrderLaws.{rising_file}
-use Rattle.osm_files.proofs.RestLaws.{lines_front, lines_rest, sets_after}
+use Rattle.osm_files.proofs.KeyedFileLaws.{keyed_formed, keyed_sorted}
+use Rattle.osm_files.proofs.RestLaws.{FormedFile, accepted_formed, lines_front, lines_rest, sets_before, sets_after}
+use Rattle.osm_files.proofs.RunSetsLaws.{within_file}
 use Rattle.osm_files.proofs.SplitLaws.{slice_get-drop, neither, splits_by, whole_file}
 use Rattle.osm_files.proofs.UnsortedLaws.{front_sorted}
 
@@ -105,6 +111,11 @@ is_in_file file run offset bytes has can =
 sorted_accepted : (bytes : List ℕ) → (held : VersionSet) × HoldsSorted bytes held → IsAccepted bytes
 sorted_accepted bytes (held, h) = (held, record { short = h.short; versions = h.versions; file = h.file; members = h.members })
 
+-- a run that is sorted by its keys is a sorted file, if it is accepted
+keys_sorted : (file : List ℕ) (run : SortedRun) → IsSortedByKeys file run → IsSortedIfAccepted file run
+keys_sorted file run (inl sorted) accepted = sorted
+keys_sorted file run (inr keyed) accepted = keyed_sorted (run_bytes run file) keyed accepted
+
 module _ (file : List ℕ) (run : SortedRun) (offset : ℕ) (bytes : BytesAtSplit) (has : HasBytes file run.start offset bytes)
     (can : can_split run offset bytes ≡ true) where
   -- the lines before the first version of a run that is out of order are a sorted file
@@ -135,21 +146,31 @@ module _ (file : List ℕ) (run : SortedRun) (offset : ℕ) (bytes : BytesAtSpli
       (f.held, subst (λ xs. HoldsSorted xs f.held) same f.sorted)
 
   -- the front of a run is a sorted file if it is accepted, if it is one as o5
-  front_is_sorted : (t : Bool) → is_o5_run run bytes ≡ t → (t ≡ true → IsSortedRun file (front_run t run offset)) → length file < 2 ^ 64
-      → BreaksAt file run offset → IsSortedIfAccepted file (front_run t run offset)
-  front_is_sorted true is sets short breaks = λ accepted. sets refl
+  front_is_sorted : (t : Bool) → is_o5_run run bytes ≡ t → (t ≡ true → IsSortedByKeys file (front_run t run offset))
+      → length file < 2 ^ 64 → BreaksAt file run offset → IsSortedIfAccepted file (front_run t run offset)
+  front_is_sorted true is sets short breaks = keys_sorted file (front_run true run offset) (sets refl)
   front_is_sorted false is sets short (inl unsorted) = λ accepted. lines_sorted is short unsorted
-  front_is_sorted false is sets short (inr sorted) = sorted
+  front_is_sorted false is sets short (inr (inl sorted)) = sorted
+  front_is_sorted false is sets short (inr (inr rises)) =
+      absurd (false≢true (sym is ∙ ap (λ o. run.lacks_header || is_reset o) (sym has.first) ∙ rises.0))
 
-  front_is_accepted : (t : Bool) → is_o5_run run bytes ≡ t → (t ≡ true → IsSortedRun file (front_run t run offset))
+  sets_formed : IsSortedByKeys file (front_run true run offset) → SplitAtReset (run_bytes (front_run true run offset) file)
+      (run_bytes (rest_run true run offset) file) (run_bytes run file) → FormedFile (run_bytes (front_run true run offset) file)
+  sets_formed (inl sorted) split = accepted_formed (run_bytes (front_run true run offset) file) split.data_sets (sorted_accepted _ sorted)
+  sets_formed (inr keyed) split = keyed_formed (run_bytes (front_run true run offset) file) keyed
+
+  front_is_accepted : (t : Bool) → is_o5_run run bytes ≡ t → (t ≡ true → IsSortedByKeys file (front_run t run offset))
       → IsAcceptedRun file run → IsAcceptedRun file (front_run t run offset)
-  front_is_accepted true is sets all = sorted_accepted _ (sets refl)
+  front_is_accepted true is sets all =
+      let split = splits_by run offset bytes file has can true is in
+      sets_before _ _ _ split (sets_formed (sets refl) split) all
   front_is_accepted false is sets all = lines_front _ _ _ (splits_by run offset bytes file has can false is) all
 
-  rest_is_accepted : (t : Bool) → is_o5_run run bytes ≡ t → (t ≡ true → IsSortedRun file (front_run t run offset))
+  rest_is_accepted : (t : Bool) → is_o5_run run bytes ≡ t → (t ≡ true → IsSortedByKeys file (front_run t run offset))
       → IsAccepted (run_bytes run file) → IsAccepted (run_bytes (rest_run t run offset) file)
-  rest_is_accepted true is sets all = sets_after _ _ _ (splits_by run offset bytes file has can true is) (sorted_accepted _ (sets refl))
-      all
+  rest_is_accepted true is sets all =
+      let split = splits_by run offset bytes file has can true is in
+      sets_after _ _ _ split (sets_formed (sets refl) split) all
   rest_is_accepted false is sets all = lines_rest _ _ _ (splits_by run offset bytes file has can false is) all
 
 -- ---- a file that is split once more
@@ -193,21 +214,21 @@ one_more old new offset bytes front value =
 module _ (known : Option (List ℕ)) (size : ℕ) (old new : FileRuns) (offset : ℕ) (bytes : BytesAtSplit) (front : SortedRun)
     (has : IfSome known (λ all. HasBytes all old.rest.start offset bytes))
     (value : (let here : Split = (new, Some front) in here) ≡ after_split old (split_run old.rest offset bytes))
-    (sets : front.lacks_end ≡ true → IfWhole known size (λ all. IsSortedRun all front)) where
+    (sets : front.lacks_end ≡ true → IfWhole known size (λ all. IsSortedByKeys all front)) where
   abbrev Has : Option (List ℕ) → Type 0
   Has o = IfSome o (λ all. HasBytes all old.rest.start offset bytes)
 
   abbrev Sets : Option (List ℕ) → Type 0
-  Sets o = front.lacks_end ≡ true → IfWhole o size (λ all. IsSortedRun all front)
+  Sets o = front.lacks_end ≡ true → IfWhole o size (λ all. IsSortedByKeys all front)
 
   with_front : (P : SortedRun → Type 0) → Cut old offset bytes new front → P front → All P old.fronts → All P new.fronts
   with_front P cut one fronts =
       subst (All P) (sym cut.fronts_are) (All-append P old.fronts (front ∷ []) fronts (All-cons P front [] one (All-nil P)))
 
   o5_front : (all : List ℕ) → Sets (Some all) → length all ≡ size → (cut : Cut old offset bytes new front)
-      → is_o5_run old.rest bytes ≡ true → IsSortedRun all (front_run (is_o5_run old.rest bytes) old.rest offset)
+      → is_o5_run old.rest bytes ≡ true → IsSortedByKeys all (front_run (is_o5_run old.rest bytes) old.rest offset)
   o5_front all given whole cut is =
-      subst (IsSortedRun all) cut.front_is (given (ap (λ r. r.lacks_end) cut.front_is ∙ is) whole)
+      subst (IsSortedByKeys all) cut.front_is (given (ap (λ r. r.lacks_end) cut.front_is ∙ is) whole)
 
   fronts_by : (o : Option (List ℕ)) → Has o → Sets o → size < 2 ^ 64 → IfWhole o size (λ all.
       BreaksAt all old.rest offset → All (IsSortedIfAccepted all) old.fronts → All (IsSortedIfAccepted all) new.fronts)
@@ -399,19 +420,6 @@ own_bytes run all header end =
     ap (λ t. cond t o5m_header [] ++ (part ++ bytes_after run)) header ∙ ap (λ t. part ++ cond t (end_byte ∷ []) []) end
     ∙ append-nil part
 
--- a run may be longer than its file
-within_file : (run : SortedRun) (all : List ℕ) (end : ℕ) → length all < 2 ^ 64
-    → end ≡ min (min (run.start + run.size) (2 ^ 64 - 1)) (length all)
-    → take run.size (drop run.start all) ≡ lines_between all run.start end
-within_file run all end short is =
-    let part : List ℕ = drop run.start all in
-    let long : length part ≡ length all - run.start = length-drop run.start all in
-    ⊎_elim
-    (λ inside. ap (λ n. take n part) (let e : run.size ≡ end - run.start = omega (arith, is, short, inside) in e))
-    (λ outside. take_all run.size part (omega (arith, long, outside))
-    ∙ sym (take_all (end - run.start) part (omega (arith, long, outside, is, short))))
-    (cases_lt (run.start + run.size) (length all))
-
 by_first : (part : List ℕ) (n : ℕ) → is_reset (slice_get part 0) ≡ false → start_of (take (suc n) part) ≡ InOpl
 by_first [] n other = refl
 by_first (p ∷ part) n other = ap (λ t. cond t BeforeHeader InOpl) other
@@ -431,7 +439,7 @@ module _ (Fails : Type 0) (run : SortedRun) (first : Option ℕ) (lines : is_lin
     opl : (n : ℕ) → start_of (take n (drop run.start all)) ≡ InOpl
     opl n = starts_as_lines all run.start n (ap is_reset there ∙ (are_lines run first lines).start)
 
-    bytes_are : run_bytes run all ≡ lines_between all run.start end
+    bytes_are : run_bytes run all ≡ bytes_between all run.start end
     bytes_are =
         own_bytes run all (are_lines run first lines).header (are_lines run first lines).end
         ∙ within_file run all end (omega (arith, short, whole)) (is ∙ ap (min (min (run.start + run.size) (2 ^ 64 - 1))) (sym whole))
@@ -439,14 +447,14 @@ module _ (Fails : Type 0) (run : SortedRun) (first : Option ℕ) (lines : is_lin
     by_search : (result : Result (Option ℕ) Fault) → IsOrderOfLines Fails all run.start end result → IsBreakOf Fails all run result
     by_search (Ok None) (after, rise) = λ accepted.
         subst (λ bytes. (held : VersionSet) × HoldsSorted bytes held) (sym bytes_are)
-        (rising_file (lines_between all run.start end) after (opl (end - run.start)) rise (subst IsAccepted bytes_are accepted))
-    by_search (Ok (Some offset)) (after, rise) = inr (λ accepted.
+        (rising_file (bytes_between all run.start end) after (opl (end - run.start)) rise (subst IsAccepted bytes_are accepted))
+    by_search (Ok (Some offset)) (after, rise) = inr (inl (λ accepted.
         let n : ℕ = offset - run.start in
         let less : offset - run.start - 0 ≡ n = omega arith in
-        let same : run_bytes (front_run false run offset) all ≡ lines_between all run.start offset =
+        let same : run_bytes (front_run false run offset) all ≡ bytes_between all run.start offset =
         own_bytes (front_run false run offset) all (are_lines run first lines).header refl ∙ ap (λ m. take m (drop run.start all)) less in
         subst (λ bytes. (held : VersionSet) × HoldsSorted bytes held) (sym same)
-        (rising_file (lines_between all run.start offset) after (opl n) rise (subst IsAccepted same accepted)))
+        (rising_file (bytes_between all run.start offset) after (opl n) rise (subst IsAccepted same accepted))))
     by_search (Err fault) (inl failure) = inl failure
     by_search (Err fault) (inr never) = inr (λ accepted.
         let a = subst IsAccepted bytes_are accepted in
@@ -457,6 +465,29 @@ module _ (Fails : Type 0) (run : SortedRun) (first : Option ℕ) (lines : is_lin
       → Searched known result → IfWhole known size (λ all. IsBreakOf Fails all run result)
   lines_break None result there found = tt
   lines_break (Some all) result there found = λ whole. by_search all whole there result (found (omega (arith, is, whole)))
+
+-- The order of a run by the keys of its data sets.
+abbrev break_of : SetOrder → Option (Option ℕ)
+break_of Rises = Some None
+break_of (Falls offset) = Some (Some offset)
+break_of Unknown = None
+
+sets_by : (Fails : Type 0) (all : List ℕ) (run : SortedRun) (found : Option ℕ) (order : SetOrder) → break_of order ≡ Some found
+    → IsOrderOfRun Fails all run (Ok order) → IsBreakOf Fails all run (Ok found)
+sets_by Fails all run found Rises is keyed =
+    let same : None ≡ found = cc in
+    subst (λ (f : Option ℕ). IsBreakOf Fails all run (Ok f)) same (keyed_sorted (run_bytes run all) keyed)
+sets_by Fails all run found (Falls offset) is rises =
+    let same : Some offset ≡ found = cc in
+    subst (λ (f : Option ℕ). IsBreakOf Fails all run (Ok f)) same (inr (inr rises))
+sets_by Fails all run found Unknown is keyed = absurd (let f : None ≡ Some found = is in cc)
+
+-- The order of a run is that of the keys of its data sets.
+pub sets_break : (Fails : Type 0) (known : Option (List ℕ)) (size : ℕ) (run : SortedRun) (found : Option ℕ) (order : SetOrder)
+    → break_of order ≡ Some found → IfWhole known size (λ all. IsOrderOfRun Fails all run (Ok order))
+    → IfWhole known size (λ all. IsBreakOf Fails all run (Ok found))
+sets_break Fails None size run found order is h = tt
+sets_break Fails (Some all) size run found order is h = λ whole. sets_by Fails all run found order is (h whole)
 
 -- The order of a run that was read whole.
 pub order_breaks : (Fails : Type 0) (known : Option (List ℕ)) (size : ℕ) (run : SortedRun) (result : Result (Option ℕ) Fault)

@@ -1,8 +1,7 @@
 -- The lines and the data sets of files that are joined.
-use Rattle.std.proofs.Common.{◌≡◌, ◌⊎◌, ⊎_elim, ℕ, Bool, true, false, cond, List, [], ◌∷◌, ◌++◌, drop, filter, refl, sym, ap, ◌∙◌}
+use Rattle.std.proofs.Common.{◌≡◌, ⊎_elim, ℕ, Bool, true, false, cond, List, [], ◌∷◌, ◌++◌, drop, filter, refl, sym, ap, ◌∙◌}
 use Rattle.std.proofs.Common.{subst, append_assoc, append-nil}
 use Rattle.std.specs.List.{flat_map}
-use Rattle.std.proofs.lemmas.List.{append_cancel_right}
 use Rattle.std.proofs.lemmas.List.Elements.{filter-append}
 use Rattle.osm_model.specs.Data.{VersionData}
 use Rattle.osm_model.specs.Pairwise.{Pairwise}
@@ -96,12 +95,6 @@ module _ (header rest : List ℕ) (is : Header header) where
 
 abbrev pub bytes_of : List FilePart → List ℕ
 bytes_of parts = flat_map part_bytes parts
-
-pub before_end : (front : List ℕ) (versions : List VersionData) (file : O5File (front ++ end_byte ∷ []) versions) →
-    front ≡ file.header ++ bytes_of file.parts
-before_end front versions file =
-    append_cancel_right front (file.header ++ bytes_of file.parts) (end_byte ∷ [])
-    (file.whole ∙ sym (append_assoc file.header (bytes_of file.parts) (end_byte ∷ [])))
 
 pub after_header : (header more : List ℕ) (versions : List VersionData) → Header header → (file : O5File (header ++ more) versions)
     → more ≡ bytes_of file.parts ++ end_byte ∷ []

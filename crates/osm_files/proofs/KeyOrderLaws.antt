@@ -22,9 +22,9 @@ use Rattle.osm_files.specs.declared.key_order.Stop.TheVariants.{Falls, Refused}
 use Rattle.osm_files.specs.declared.key_order.StopAt.{StopAt}
 use Rattle.osm_files.specs.declared.line_key.Key.{Key}
 use Rattle.osm_files.specs.FileRuns.{IsAccepted, IsReadFailure}
-use Rattle.osm_files.specs.Held.{HoldsSorted}
+use Rattle.osm_files.specs.Held.{Holds, HoldsSorted}
 use Rattle.osm_files.specs.KeyOrder.{CameAt, AreRising, Rise, IsNoFile, EndsLine, StepsOver, lines_to, StopsIn, ReadsLines, IsWithin}
-use Rattle.osm_files.specs.KeyOrder.{EndsLines, lines_between, IsOrderOfLines, outcome_at, outcome_of}
+use Rattle.osm_files.specs.KeyOrder.{EndsLines, bytes_between, IsOrderOfLines, outcome_at, outcome_of}
 use Rattle.osm_files.specs.LineKey.{key_of, is_key_below, IsKeyOf, keys_rise}
 use Rattle.osm_files.specs.Opl.{is_read, OplFile}
 use Rattle.osm_files.specs.ReadAt.{AreAt, AreLast}
@@ -55,20 +55,26 @@ rising_rise (Some w) (v ∷ versions) h =
       rising_rise (Some v) versions parts.1,
     )
 
+-- A file whose keys don't fall is sorted.
+pub sorted_if_rising : (bytes : List ℕ) (held : VersionSet) (h : Holds bytes held) (after : Option Key)
+    → AreRising None h.versions after → (held : VersionSet) × HoldsSorted bytes held
+sorted_if_rising bytes held h after rise = (
+  held,
+  record {
+    short = h.short;
+    versions = h.versions;
+    file = h.file;
+    sorted = rises_sorted h.versions (rising_rise None h.versions rise.0);
+    members = h.members;
+  },
+)
+
 -- Lines whose keys don't fall are a sorted file, if they are accepted.
 pub rising_file : (bytes : List ℕ) (after : Option Key) → start_of bytes ≡ InOpl → Rise None bytes after → IsAccepted bytes
     → (held : VersionSet) × HoldsSorted bytes held
 rising_file bytes after opl rise (held, h) =
-    let lines : OplFile bytes h.versions = rw opl at h.file in (
-      held,
-      record {
-        short = h.short;
-        versions = h.versions;
-        file = h.file;
-        sorted = rises_sorted h.versions (rising_rise None h.versions (rise h.versions lines).0);
-        members = h.members;
-      },
-    )
+    let lines : OplFile bytes h.versions = rw opl at h.file in
+    sorted_if_rising bytes held h after (rise h.versions lines)
 
 -- ---- lines in sequence
 ends_both : (xs ys : List ℕ) → EndsLine xs → EndsLine ys → EndsLine (xs ++ ys)
@@ -344,17 +350,17 @@ not_read Fails (Some all) size fault fails is = λ fits. inr (fails, is)
 -- ---- the lines of a file
 -- the lines from `start` on up to some offset don't fall; they end with the end of a line, unless they are all
 pub record RisesTo (all : List ℕ) (start end : ℕ) (lines : RisingLines) : Type 0 where
-  pub ends : lines.end < end → EndsLine (lines_between all start lines.end)
-  pub rise : Rise None (lines_between all start lines.end) lines.last
+  pub ends : lines.end < end → EndsLine (bytes_between all start lines.end)
+  pub rise : Rise None (bytes_between all start lines.end) lines.last
 
 pub nothing_between : (all : List ℕ) (start end : ℕ) (lines : RisingLines) → lines ≡ (record { end = start; last = None })
     → RisesTo all start end lines
 nothing_between all start end lines is =
     let zero_it_is : lines.end - start ≡ 0 = omega (arith, ap (λ l. l.end) is) in
-    let none : lines_between all start lines.end ≡ [] = ap (λ n. take n (drop start all)) zero_it_is in
+    let none : bytes_between all start lines.end ≡ [] = ap (λ n. take n (drop start all)) zero_it_is in
     record {
       ends = λ less. inl none;
-      rise = subst (λ k. Rise None (lines_between all start lines.end) k) (sym (ap (λ l. l.last) is))
+      rise = subst (λ k. Rise None (bytes_between all start lines.end) k) (sym (ap (λ l. l.last) is))
           (subst (λ xs. Rise None xs None) (sym none) (nothing_rises None));
     }
 
@@ -362,27 +368,27 @@ nothing_between all start end lines is =
 module _ (all : List ℕ) (start end : ℕ) (lines : RisingLines) (window : List ℕ) (at : AreAt (Some all) lines.end window)
     (after_start : start ≤ lines.end) (less : lines.end < end) (fits : lines.end + length window ≤ end)
     (risen : RisesTo all start end lines) where
-  front_ends : EndsLine (lines_between all start lines.end)
+  front_ends : EndsLine (bytes_between all start lines.end)
   front_ends = risen.ends less
 
   -- the lines up to an offset in the window
   lines_in : (place : ℕ) → lines.end ≤ place → place ≤ lines.end + length window
-      → lines_between all start place ≡ lines_between all start lines.end ++ lines_to window lines place
+      → bytes_between all start place ≡ bytes_between all start lines.end ++ lines_to window lines place
   lines_in place low high =
       let sum : place - start ≡ lines.end - start + (place - lines.end) = omega (arith, low, after_start) in
       let back : start + (lines.end - start) ≡ lines.end = omega (arith, after_start) in
       ap (λ n. take n (drop start all)) sum
       ∙ take-add (lines.end - start) (place - lines.end) (drop start all)
-      ∙ ap (λ xs. lines_between all start lines.end ++ take (place - lines.end) xs)
+      ∙ ap (λ xs. bytes_between all start lines.end ++ take (place - lines.end) xs)
       (drop-drop (lines.end - start) start all ∙ ap (λ n. drop n all) back ∙ at.1)
-      ∙ ap (λ xs. lines_between all start lines.end ++ xs)
+      ∙ ap (λ xs. bytes_between all start lines.end ++ xs)
       (take-append-le (place - lines.end) window at.0 (omega (arith, high)))
 
   rise_in : (place : ℕ) (after : Option Key) → lines.end ≤ place → place ≤ lines.end + length window
-      → Rise lines.last (lines_to window lines place) after → Rise None (lines_between all start place) after
+      → Rise lines.last (lines_to window lines place) after → Rise None (bytes_between all start place) after
   rise_in place after low high rise =
       subst (λ xs. Rise None xs after) (sym (lines_in place low high))
-      (rise_both None lines.last after (lines_between all start lines.end) (lines_to window lines place) front_ends risen.rise rise)
+      (rise_both None lines.last after (bytes_between all start lines.end) (lines_to window lines place) front_ends risen.rise rise)
 
   -- More lines rise.
   pub rises_on : (is_last : Bool) (read : RisingLines) → (is_last ≡ true → lines.end + length window ≡ end)
@@ -394,7 +400,7 @@ module _ (all : List ℕ) (start end : ℕ) (lines : RisingLines) (window : List
   }
   rises_on false read all_there all_read within reads = record {
     ends = λ more. subst EndsLine (sym (lines_in read.end within.0 within.1))
-        (ends_both (lines_between all start lines.end) (lines_to window lines read.end) front_ends (reads.1 refl));
+        (ends_both (bytes_between all start lines.end) (lines_to window lines read.end) front_ends (reads.1 refl));
     rise = rise_in read.end read.last within.0 within.1 reads.0;
   }
 
@@ -402,17 +408,17 @@ module _ (all : List ℕ) (start end : ℕ) (lines : RisingLines) (window : List
   abbrev rest_of : List ℕ
   rest_of = take (end - (lines.end + length window)) at.0
 
-  whole_lines : lines_between all start end ≡ lines_between all start lines.end ++ (window ++ rest_of)
+  whole_lines : bytes_between all start end ≡ bytes_between all start lines.end ++ (window ++ rest_of)
   whole_lines =
       let sum : end - start ≡ lines.end - start + (end - lines.end) = omega (arith, less, after_start) in
       let back : start + (lines.end - start) ≡ lines.end = omega (arith, after_start) in
       let left : end - lines.end ≡ length window + (end - (lines.end + length window)) = omega (arith, fits) in
       ap (λ n. take n (drop start all)) sum
       ∙ take-add (lines.end - start) (end - lines.end) (drop start all)
-      ∙ ap (λ xs. lines_between all start lines.end ++ take (end - lines.end) xs)
+      ∙ ap (λ xs. bytes_between all start lines.end ++ take (end - lines.end) xs)
       (drop-drop (lines.end - start) start all ∙ ap (λ n. drop n all) back ∙ at.1)
-      ∙ ap (λ n. lines_between all start lines.end ++ take n (window ++ at.0)) left
-      ∙ ap (λ xs. lines_between all start lines.end ++ xs) (take-append-add window at.0 (end - (lines.end + length window)))
+      ∙ ap (λ n. bytes_between all start lines.end ++ take n (window ++ at.0)) left
+      ∙ ap (λ xs. bytes_between all start lines.end ++ xs) (take-append-add window at.0 (end - (lines.end + length window)))
 
   -- A stop in the window is the result of the search.
   pub stops_search : (Fails : Type 0) (input : ℕ) (is_last : Bool) (place : ℕ) (why : Stop)
@@ -423,7 +429,7 @@ module _ (all : List ℕ) (start end : ℕ) (lines : RisingLines) (window : List
       subst (λ (r : OplReason). IsOrderOfLines Fails all start end (outcome_at input place (Refused r))) (sym memory) (inl (inl refl))
   stops_search Fails input is_last place (Refused reason) all_there (inr never) =
       inr (subst IsNoFile (sym whole_lines)
-      (no_file_after (lines_between all start lines.end) (window ++ rest_of) front_ends
+      (no_file_after (bytes_between all start lines.end) (window ++ rest_of) front_ends
       (never rest_of (λ last.
       let e = all_there last in
       let none : end - (lines.end + length window) ≡ 0 = omega (arith, e) in
@@ -453,7 +459,7 @@ module _ (start end : ℕ) (lines : RisingLines) (window : List ℕ) (is_last : 
 -- All lines rise.
 pub all_risen : (known : Option (List ℕ)) (start end : ℕ) (lines : RisingLines) → lines.end - start ≡ end - start
     → IfSome known (λ all. RisesTo all start end lines)
-    → IfSome known (λ all. end ≤ length all → (after : Option Key) × Rise None (lines_between all start end) after)
+    → IfSome known (λ all. end ≤ length all → (after : Option Key) × Rise None (bytes_between all start end) after)
 all_risen None start end lines same risen = tt
 all_risen (Some all) start end lines same risen = λ long. (
   lines.last,

@@ -46,4 +46,8 @@ pub mod JoinLaws
 mod RestLaws
 mod LineKeyLaws
 mod KeyOrderLaws
+mod SetKeyLaws
+mod SetOrderLaws
+mod KeyedFileLaws
+mod RunSetsLaws
 mod FileRunLaws

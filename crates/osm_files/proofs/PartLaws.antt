@@ -269,7 +269,7 @@ type_at : (k : Kind) (b : ℕ) → b ≡ type_byte k → IsObjectType k b
 type_at k b is = subst (IsObjectType k) (sym is) (object_type k)
 
 module _ (s : Segment) (b : ℕ) (bytes : List ℕ) (versions : List VersionData) where
-  end_only : FirstPart s b bytes versions → (b == end_byte) ≡ true → (bytes ≡ []) × ([] ≡ versions)
+  pub end_only : FirstPart s b bytes versions → (b == end_byte) ≡ true → (bytes ≡ []) × ([] ≡ versions)
   end_only (inl h) e = (h.1, h.2)
   end_only (inr (inl h)) e = absurd (clash _ e h.0)
   end_only (inr (inr (inl h))) e = absurd (clash _ e h.0)

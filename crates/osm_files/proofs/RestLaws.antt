@@ -1,5 +1,5 @@
 -- The rest of a file that is split is a file.
-use Rattle.std.proofs.Common.{◌≡◌, ℕ, List, [], ◌∷◌, ◌++◌, length, refl, sym, ap}
+use Rattle.std.proofs.Common.{◌≡◌, ℕ, true, List, [], ◌∷◌, ◌++◌, length, refl, sym, ap}
 use Rattle.std.proofs.Common.{◌∙◌, subst, arith, length-append, append_assoc}
 use Rattle.std.proofs.Math.Seq.{take-append_seam, drop-append_seam}
 use Rattle.osm_model.specs.Data.{VersionData}
@@ -7,15 +7,17 @@ use Rattle.o5_codec.specs.declared.segment.Segment.{Segment}
 use Rattle.o5_codec.specs.Decoder.{new_segment}
 use Rattle.o5_codec.specs.Number.{SpellsNumber}
 use Rattle.o5_codec.specs.Spelling.{SpellsSet}
-use Rattle.o5_codec.proofs.StepLaws.{set_only}
 use Rattle.osm_files.specs.FileRuns.{IsAccepted}
-use Rattle.osm_files.specs.O5.{end_byte, reset_byte, type_byte, FilePart, Reset, Lone, Skipped, Object, PartsSpell, O5File}
+use Rattle.std.proofs.lemmas.List.{append_cancel_right}
+use Rattle.osm_files.specs.Held.{IsFile}
+use Rattle.osm_files.specs.O5.{end_byte, reset_byte, type_byte, is_lone, IsOtherType, FilePart, Reset, Lone, Skipped, Object, PartsSpell}
+use Rattle.osm_files.specs.O5.{O5File}
 use Rattle.osm_files.specs.Opl.{OplFile}
 use Rattle.osm_files.specs.SortedRun.{SplitAfterLine, SplitAtReset}
 use Rattle.osm_files.specs.Units.{BeforeHeader, start_of}
-use Rattle.osm_files.proofs.FileLaws.{header_long}
-use Rattle.osm_files.proofs.JoinLaws.{header_starts, bytes_of, before_end, after_header, split_ended, split_starts, starts_with_reset}
-use Rattle.osm_files.proofs.PartLaws.{PartsFile, Sized, SameSize, FirstPart, first_part, length_read, same_size, same_read}
+use Rattle.osm_files.proofs.FileLaws.{Header, header_long}
+use Rattle.osm_files.proofs.JoinLaws.{header_starts, bytes_of, after_header, split_ended, split_starts, starts_with_reset}
+use Rattle.osm_files.proofs.PartLaws.{PartsFile, Sized, SameSize, FirstPart, first_part, length_read, same_size}
 use Rattle.osm_files.proofs.PartLaws.{lone_is_no_end, object_type, reset_only, lone_only, sized_only, skipped_only, object_only}
 
 -- ---- lines
@@ -63,95 +65,195 @@ module _ (bytes size content tail : List ℕ) (spelled : SpellsNumber size (leng
   same_tail : rest ≡ tail
   same_tail = sym same_sized.rest_is ∙ drop-append_seam content tail
 
--- the data sets after a reset are the rest of a file
-abbrev SetsAfter : List ℕ → Type 0
-SetsAfter after = (later : List VersionData) × PartsFile new_segment after later
+-- each part has the form of its type
+abbrev pub AreFormed : List FilePart → Type 0
+AreFormed [] = Unit {0}
+AreFormed (Reset ∷ parts) = AreFormed parts
+AreFormed (Lone b ∷ parts) = (is_lone b ≡ true) × AreFormed parts
+AreFormed (Skipped b size content ∷ parts) = IsOtherType b × SpellsNumber size (length content) × AreFormed parts
+AreFormed (Object k size content ∷ parts) = SpellsNumber size (length content) × AreFormed parts
 
-module _ (after : List ℕ) where
-  abbrev tail_of : List FilePart → List ℕ
-  tail_of parts = bytes_of parts ++ reset_byte ∷ after
+formed_spelled : (s : Segment) (parts : List FilePart) (versions : List VersionData) → PartsSpell s parts versions → AreFormed parts
+formed_spelled s [] versions h = tt
+formed_spelled s (Reset ∷ parts) versions h = formed_spelled new_segment parts versions h
+formed_spelled s (Lone b ∷ parts) versions h = (h.0, formed_spelled s parts versions h.1)
+formed_spelled s (Skipped b size content ∷ parts) versions h = (h.0, h.1, formed_spelled s parts versions h.2)
+formed_spelled s (Object k size content ∷ parts) versions (number, (v, next, others, is, spells, spelled)) =
+    (number, formed_spelled next parts others spelled)
+
+-- parts that spell the first versions of a file, and the rest of the file
+pub record Joined (s : Segment) (parts : List FilePart) (tail : List ℕ) (versions : List VersionData) : Type 0 where
+  pub earlier : List VersionData
+  pub later : List VersionData
+  pub next : Segment
+  pub are : versions ≡ earlier ++ later
+  pub spelled : PartsSpell s parts earlier
+  pub rest : PartsFile next tail later
+
+module _ (tail : List ℕ) where
+  abbrev pub with_tail : List FilePart → List ℕ
+  with_tail parts = bytes_of parts ++ tail
 
   first_of : (s : Segment) (b : ℕ) (bytes : List ℕ) (versions : List VersionData) → PartsFile s (b ∷ bytes) versions
       → FirstPart s b bytes versions
   first_of s b bytes versions (parts, is, spelled) = first_part s b bytes parts versions is spelled
 
   joined_tail : (size content : List ℕ) (parts : List FilePart)
-      → ((size ++ content) ++ bytes_of parts) ++ reset_byte ∷ after ≡ size ++ (content ++ tail_of parts)
+      → ((size ++ content) ++ bytes_of parts) ++ tail ≡ size ++ (content ++ with_tail parts)
   joined_tail size content parts =
-      append_assoc (size ++ content) (bytes_of parts) (reset_byte ∷ after) ∙ append_assoc size content (tail_of parts)
+      append_assoc (size ++ content) (bytes_of parts) tail ∙ append_assoc size content (with_tail parts)
 
-  sets_rest : (s : Segment) (parts : List FilePart) (earlier versions : List VersionData) → PartsSpell s parts earlier
-      → PartsFile s (tail_of parts) versions → SetsAfter after
-  sets_rest s [] earlier versions spelled h = (
-    versions,
-    reset_only s reset_byte after versions (first_of s reset_byte after versions h)
-        refl refl,
-  )
-  sets_rest s (Reset ∷ parts) earlier versions spelled h =
-      sets_rest new_segment parts earlier versions spelled
-      (reset_only s reset_byte (tail_of parts) versions (first_of s reset_byte (tail_of parts) versions h) refl refl)
-  sets_rest s (Lone b ∷ parts) earlier versions spelled h =
-      let no = lone_is_no_end b spelled.0 in
-      sets_rest s parts earlier versions spelled.1
-      (lone_only s b (tail_of parts) versions (first_of s b (tail_of parts) versions h) no.0 no.1 spelled.0)
-  sets_rest s (Skipped b size content ∷ parts) earlier versions (other, number, spelled) h =
-      let bytes : List ℕ = ((size ++ content) ++ bytes_of parts) ++ reset_byte ∷ after in
+  -- Parts at the front of a file are parts of the file: its bytes determine them.
+  pub same_parts : (s : Segment) (parts : List FilePart) (versions : List VersionData) → AreFormed parts
+      → PartsFile s (with_tail parts) versions → Joined s parts tail versions
+  same_parts s [] versions formed h =
+      record { earlier = []; later = versions; next = s; are = refl; spelled = refl; rest = h }
+  same_parts s (Reset ∷ parts) versions formed h =
+      let j = same_parts new_segment parts versions formed
+      (reset_only s reset_byte (with_tail parts) versions (first_of s reset_byte (with_tail parts) versions h) refl refl) in
+      record { earlier = j.earlier; later = j.later; next = j.next; are = j.are; spelled = j.spelled; rest = j.rest }
+  same_parts s (Lone b ∷ parts) versions formed h =
+      let no = lone_is_no_end b formed.0 in
+      let j = same_parts s parts versions formed.1
+      (lone_only s b (with_tail parts) versions (first_of s b (with_tail parts) versions h) no.0 no.1 formed.0) in
+      record {
+        earlier = j.earlier;
+        later = j.later;
+        next = j.next;
+        are = j.are;
+        spelled = (formed.0, j.spelled);
+        rest = j.rest;
+      }
+  same_parts s (Skipped b size content ∷ parts) versions (other, number, formed) h =
+      let bytes : List ℕ = ((size ++ content) ++ bytes_of parts) ++ tail in
       let sized = sized_only s b bytes versions (first_of s b bytes versions h) other.0 other.1 other.2 in
       let k = skipped_only s b bytes versions sized other.3 in
-      let tail = same_tail bytes size content (tail_of parts) number (joined_tail size content parts) k.1.0 k.1.1 k.1.2 in
-      sets_rest s parts earlier versions spelled (subst (λ (xs : List ℕ). PartsFile s xs versions) tail k.1.3)
-  sets_rest s (Object k size content ∷ parts) earlier versions (number, (v, next, others, is, spells, spelled)) h =
-      let bytes : List ℕ = ((size ++ content) ++ bytes_of parts) ++ reset_byte ∷ after in
+      let after = same_tail bytes size content (with_tail parts) number (joined_tail size content parts) k.1.0 k.1.1 k.1.2 in
+      let j = same_parts s parts versions formed (subst (λ (xs : List ℕ). PartsFile s xs versions) after k.1.3) in
+      record {
+        earlier = j.earlier;
+        later = j.later;
+        next = j.next;
+        are = j.are;
+        spelled = (other, number, j.spelled);
+        rest = j.rest;
+      }
+  same_parts s (Object k size content ∷ parts) versions (number, formed) h =
+      let bytes : List ℕ = ((size ++ content) ++ bytes_of parts) ++ tail in
       let b : ℕ = type_byte k in
       let type = object_type k in
       let sized = sized_only s b bytes versions (first_of s b bytes versions h) type.0 type.1 type.2 in
       let o = object_only s b bytes versions k sized type.3 in
       let split = joined_tail size content parts in
-      let same = same_content bytes size content (tail_of parts) number split o.0 o.1 o.2 in
-      let tail = same_tail bytes size content (tail_of parts) number split o.0 o.1 o.2 in
+      let same = same_content bytes size content (with_tail parts) number split o.0 o.1 o.2 in
+      let after = same_tail bytes size content (with_tail parts) number split o.0 o.1 o.2 in
       let set = subst (λ (xs : List ℕ). SpellsSet k s xs (o.3.0, o.3.1)) same o.3.4 in
-      let segment = (same_read v o.3.0 next o.3.1 (sym (set_only k s content (v, next) spells) ∙ set_only k s content (o.3.0, o.3.1)
-      set)).1 in
-      let more = subst (λ (xs : List ℕ). PartsFile o.3.1 xs o.3.2) tail o.3.5 in
-      sets_rest next parts others o.3.2 spelled (subst (λ (t : Segment). PartsFile t (tail_of parts) o.3.2) (sym segment) more)
-
--- The data sets after a reset of a file are a file, with a header before them, if those before the reset are one.
-pub sets_after : (file rest bytes : List ℕ) → SplitAtReset file rest bytes → IsAccepted file → IsAccepted bytes → IsAccepted rest
-sets_after file rest bytes c (part, one) (held, all) =
-    let starts : start_of (c.front ++ reset_byte ∷ c.after) ≡ BeforeHeader =
-    starts_with_reset c.front c.after (ap start_of (sym c.is_file) ∙ c.data_sets) in
-    let first : O5File file one.versions = rw c.data_sets at one.file in
-    let sets : O5File (c.front ++ end_byte ∷ []) one.versions = rw c.is_file at first in
-    let whole : O5File (c.front ++ reset_byte ∷ c.after) all.versions = rw (c.whole, starts) at all.file in
-    let before = before_end c.front one.versions sets in
-    let same : c.front ++ reset_byte ∷ c.after ≡ sets.header ++ tail_of c.after sets.parts =
-    ap (λ xs. xs ++ reset_byte ∷ c.after) before ∙ append_assoc sets.header (bytes_of sets.parts) (reset_byte ∷ c.after) in
-    let again : O5File (sets.header ++ tail_of c.after sets.parts) all.versions = rw same at whole in
-    let more = after_header sets.header (tail_of c.after sets.parts) all.versions sets.begins again in
-    let later = sets_rest c.after new_segment sets.parts one.versions all.versions sets.spelled (again.parts, more, again.spelled) in
-    let file : O5File (c.header ++ c.after) later.0 = record {
-      header = c.header;
-      parts = later.1.0;
-      begins = c.is_header;
-      whole = ap (λ xs. c.header ++ xs) later.1.1;
-      spelled = later.1.2;
-    } in (
-      _,
+      let j = same_parts o.3.1 parts o.3.2 formed (subst (λ (xs : List ℕ). PartsFile o.3.1 xs o.3.2) after o.3.5) in
       record {
-        short = omega (
-          arith,
-          all.short,
-          ap length c.whole,
-          length-append c.front (reset_byte ∷ c.after),
-          ap length before,
-          length-append sets.header (bytes_of sets.parts),
-          header_long sets.header sets.begins,
-          ap length c.is_rest,
-          length-append c.header c.after,
-          header_long c.header c.is_header,
-        );
-        versions = later.0;
-        file = rw (c.is_rest, header_starts c.header c.after c.is_header) file;
-        members = refl;
-      },
-    )
+        earlier = o.3.0 ∷ j.earlier;
+        later = j.later;
+        next = j.next;
+        are = o.3.3 ∙ ap (λ vs. o.3.0 ∷ vs) j.are;
+        spelled = (number, (o.3.0, o.3.1, j.earlier, refl, set, j.spelled));
+        rest = j.rest;
+      }
+
+-- a header, parts of the forms of their types, and the end byte
+pub record FormedFile (bytes : List ℕ) : Type 0 where
+  pub header : List ℕ
+  pub parts : List FilePart
+  pub begins : Header header
+  pub whole : bytes ≡ header ++ (bytes_of parts ++ end_byte ∷ [])
+  pub formed : AreFormed parts
+
+-- A file that is accepted has the form of one.
+pub accepted_formed : (bytes : List ℕ) → start_of bytes ≡ BeforeHeader → IsAccepted bytes → FormedFile bytes
+accepted_formed bytes starts (held, holds) =
+    let file : O5File bytes holds.versions = rw starts at holds.file in
+    record {
+      header = file.header;
+      parts = file.parts;
+      begins = file.begins;
+      whole = file.whole;
+      formed = formed_spelled new_segment file.parts holds.versions file.spelled;
+    }
+
+-- the data sets of an accepted file before a reset, and those after it
+module _ (file rest bytes : List ℕ) (c : SplitAtReset file rest bytes) (formed : FormedFile file) (accepted : IsAccepted bytes) where
+  abbrev all : List VersionData
+  all = accepted.1.versions
+
+  before : c.front ≡ formed.header ++ bytes_of formed.parts
+  before = append_cancel_right c.front (formed.header ++ bytes_of formed.parts) (end_byte ∷ [])
+      (sym c.is_file ∙ formed.whole ∙ sym (append_assoc formed.header (bytes_of formed.parts) (end_byte ∷ [])))
+
+  joined : Joined new_segment formed.parts (reset_byte ∷ c.after) all
+  joined =
+      let tail : List ℕ = reset_byte ∷ c.after in
+      let starts : start_of (c.front ++ tail) ≡ BeforeHeader =
+      starts_with_reset c.front c.after (ap start_of (sym c.is_file) ∙ c.data_sets) in
+      let whole : O5File (c.front ++ tail) all = rw (c.whole, starts) at accepted.1.file in
+      let same : c.front ++ tail ≡ formed.header ++ with_tail tail formed.parts =
+      ap (λ xs. xs ++ tail) before ∙ append_assoc formed.header (bytes_of formed.parts) tail in
+      let again : O5File (formed.header ++ with_tail tail formed.parts) all = rw same at whole in
+      let more = after_header formed.header (with_tail tail formed.parts) all formed.begins again in
+      same_parts tail new_segment formed.parts all formed.formed (again.parts, more, again.spelled)
+
+  -- The data sets of a file before a reset are a file, with an end byte after them.
+  pub sets_before : IsAccepted file
+  sets_before =
+      let front : O5File file joined.earlier = record {
+        header = formed.header;
+        parts = formed.parts;
+        begins = formed.begins;
+        whole = formed.whole;
+        spelled = joined.spelled;
+      } in (
+        _,
+        record {
+          short = omega (
+            arith,
+            accepted.1.short,
+            ap length c.whole,
+            length-append c.front (reset_byte ∷ c.after),
+            ap length c.is_file,
+            length-append c.front (end_byte ∷ []),
+          );
+          versions = joined.earlier;
+          file = rw c.data_sets front;
+          members = refl;
+        },
+      )
+
+  -- The data sets after a reset of a file are a file, with a header before them.
+  pub sets_after : IsAccepted rest
+  sets_after =
+      let later = reset_only joined.next reset_byte c.after joined.later
+      (first_of (reset_byte ∷ c.after) joined.next reset_byte c.after joined.later joined.rest) refl refl in
+      let file : O5File (c.header ++ c.after) joined.later = record {
+        header = c.header;
+        parts = later.0;
+        begins = c.is_header;
+        whole = ap (λ xs. c.header ++ xs) later.1;
+        spelled = later.2;
+      } in (
+        _,
+        record {
+          short = omega (
+            arith,
+            accepted.1.short,
+            ap length c.whole,
+            length-append c.front (reset_byte ∷ c.after),
+            ap length before,
+            length-append formed.header (bytes_of formed.parts),
+            header_long formed.header formed.begins,
+            ap length c.is_rest,
+            length-append c.header c.after,
+            header_long c.header c.is_header,
+          );
+          versions = joined.later;
+          file = subst (λ (xs : List ℕ). IsFile xs joined.later) (sym c.is_rest)
+              (rw (header_starts c.header c.after c.is_header) file);
+          members = refl;
+        },
+      )

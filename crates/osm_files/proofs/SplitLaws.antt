@@ -28,7 +28,8 @@ take-add (suc n) m (x ∷ xs) =
     let e : suc n + m ≡ suc (n + m) = omega arith in
     ap (λ k. take k (x ∷ xs)) e ∙ ap (λ ys. x ∷ ys) (take-add n m xs)
 
-take_one : (xs : List ℕ) (i b : ℕ) → slice_get xs i ≡ Some b → take (suc i) xs ≡ take i xs ++ b ∷ []
+-- The bytes up to one more byte.
+pub take_one : (xs : List ℕ) (i b : ℕ) → slice_get xs i ≡ Some b → take (suc i) xs ≡ take i xs ++ b ∷ []
 take_one [] i b e = absurd (let f : None ≡ Some b = e in cc)
 take_one (x ∷ xs) zero b e = let is : x ≡ b = cc in ap (λ y. y ∷ []) is
 take_one (x ∷ xs) (suc i) b e = ap (λ ys. x ∷ ys) (take_one xs i b e)

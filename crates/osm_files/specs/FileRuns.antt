@@ -9,7 +9,7 @@ use Rattle.osm_files.specs.declared.sorted_run.SortedRun.{SortedRun}
 use Rattle.osm_files.specs.Fault.{memory_fault}
 use Rattle.osm_files.specs.Held.{Holds, HoldsSorted}
 use Rattle.osm_files.specs.Input.{InputRest}
-use Rattle.osm_files.specs.SortedRun.{run_bytes, offset_in_file, is_reset, front_run}
+use Rattle.osm_files.specs.SortedRun.{run_bytes, offset_in_file, is_reset}
 use Rattle.osm_files.specs.Stream.{verdict_at, SourceRest}
 use Rattle.osm_files.specs.Verdict.{verdict_sorted}
 
@@ -78,16 +78,3 @@ IsOrderOf Fails file run (Err fault) = IsRefusalOf Fails (run_bytes run file) fa
 -- has the run, with this first byte, no bytes but those of the file, and are they OPL?
 abbrev pub is_lines : SortedRun → Option ℕ → Bool
 is_lines run first = not (run.lacks_header || (run.lacks_end || is_reset first))
-
--- The order of the run breaks at this offset: there is its first version that is out of order; or the lines before the
--- offset are a sorted file, if they are accepted.
-abbrev pub BreaksAt : List ℕ → SortedRun → ℕ → Type 0
-BreaksAt file run offset =
-    IsFirstUnsortedIn file run offset ⊎ IsSortedIfAccepted file (front_run false run offset)
-
--- The result of a search for the break of a run's order: none if the run is a sorted file as far as it is accepted, or
--- the offset of the break, or a refusal of the run.
-abbrev pub IsBreakOf : Type 0 → List ℕ → SortedRun → Result (Option ℕ) Fault → Type 0
-IsBreakOf Fails file run (Ok None) = IsSortedIfAccepted file run
-IsBreakOf Fails file run (Ok (Some offset)) = BreaksAt file run offset
-IsBreakOf Fails file run (Err fault) = IsRefusalOf Fails (run_bytes run file) fault

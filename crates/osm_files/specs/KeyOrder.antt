@@ -77,16 +77,16 @@ EndsLines rest lines true (Ok read) =
     (read.end ≡ lines.end + length rest) × StepsOver lines.last rest (Ok read.last)
 EndsLines rest lines true (Err stop) = (stop.place ≡ lines.end) × StepsOver lines.last rest (Err stop.why)
 
--- the lines of a file from one offset up to another
-abbrev pub lines_between : List ℕ → ℕ → ℕ → List ℕ
-lines_between all start end = take (end - start) (drop start all)
+-- the bytes of a file from one offset up to another
+abbrev pub bytes_between : List ℕ → ℕ → ℕ → List ℕ
+bytes_between all start end = take (end - start) (drop start all)
 
 -- the result of a search for the first line whose key is below the key before it
 abbrev pub IsOrderOfLines : Type 0 → List ℕ → ℕ → ℕ → Result (Option ℕ) Fault → Type 0
-IsOrderOfLines Fails all start end (Ok None) = (after : Option Key) × Rise None (lines_between all start end) after
+IsOrderOfLines Fails all start end (Ok None) = (after : Option Key) × Rise None (bytes_between all start end) after
 IsOrderOfLines Fails all start end (Ok (Some offset)) =
-    (after : Option Key) × Rise None (lines_between all start offset) after
-IsOrderOfLines Fails all start end (Err fault) = IsReadFailure Fails fault ⊎ IsNoFile (lines_between all start end)
+    (after : Option Key) × Rise None (bytes_between all start offset) after
+IsOrderOfLines Fails all start end (Err fault) = IsReadFailure Fails fault ⊎ IsNoFile (bytes_between all start end)
 
 -- the result of a search that stops at a line
 abbrev pub outcome_at : ℕ → ℕ → Stop → Result (Option ℕ) Fault

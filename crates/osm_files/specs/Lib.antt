@@ -23,6 +23,9 @@ pub mod FileInput
 pub mod FileRuns
 pub mod LineKey
 pub mod KeyOrder
+pub mod SetKey
+pub mod RunBreaks
+pub mod SetOrder
 pub mod Lines
 pub mod Verdict
 pub mod Laws

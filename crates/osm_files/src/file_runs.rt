@@ -7,10 +7,10 @@ ghost use Rattle.osm_files.specs.declared.reason.Reason.TheVariants.{Unsorted, R
 ghost use Rattle.osm_files.specs.Fault.{IsOfFile};
 ghost use Rattle.osm_files.specs.FileRuns.{EndsWhole, StopsSource, GivesSortedFile, IfWhole, LastIsSorted};
 ghost use Rattle.osm_files.specs.FileRuns.{IsSortedRun, IsAccepted, IsAcceptedRun, IsSortedIfAccepted};
-ghost use Rattle.osm_files.specs.FileRuns.{IsFirstUnsorted, BreaksAt, is_lines, IsReadFailure, IsRefusalOf};
-ghost use Rattle.osm_files.specs.FileRuns.{IsOrderOf, IsBreakOf};
+ghost use Rattle.osm_files.specs.FileRuns.{IsFirstUnsorted, is_lines, IsReadFailure, IsRefusalOf, IsOrderOf};
 ghost use Rattle.osm_files.specs.Input.{GivesOne};
 ghost use Rattle.osm_files.specs.Load.{StopsOpening};
+ghost use Rattle.osm_files.specs.RunBreaks.{IsSortedByKeys, BreaksAt, IsBreakOf};
 ghost use Rattle.osm_files.specs.SortedRun as spec;
 
 use crate::extent::FramedExtent;
@@ -19,6 +19,7 @@ use crate::input::{Broken, Input};
 use crate::key_order::first_falling;
 use crate::read_at::ReadAt;
 use crate::reason::Reason;
+use crate::set_order::{SetOrder, order_of_run};
 use crate::sorted_run::{BytesAtSplit, SortedRun};
 use crate::source::{FileSource, Source};
 use crate::split_file::SplitFile;
@@ -31,10 +32,12 @@ use std::alloc::Global;
 /// The result is `None` if there are more than `most` runs, or if the file can't be split where its order breaks. An o5
 /// file can only be split at a reset.
 ///
-/// The file is split before each version that is out of order. Only the keys of OPL lines decide, so lines of the usual
-/// form aren't read further than their version numbers, and a line that can't be read further on isn't refused here. So
-/// OPL is read once, but a line that a window cuts is read again; an o5 file is read twice. If `first` is known, the
-/// bytes of OPL before it aren't read.
+/// The file is split before each version that is out of order. Only the keys of lines and data sets decide, so those of
+/// the usual form aren't read further than their version numbers, and one that can't be read further on isn't refused
+/// here. A line of another form is read whole. If a data set has another form, its run is read whole.
+///
+/// The lines of OPL are read once, but a line that a window cuts is read again. The keys of an o5 file are read twice.
+/// If `first` is known, the bytes of OPL before it aren't read, and the keys of o5 before it are read once.
 ///
 /// Each run is a sorted file if it is accepted in any order, if the file has the bytes that its reads return, it has
 /// `size` bytes, and `first` is right. The last run is read to its end, so this is true of it whether `first` is right
@@ -79,8 +82,8 @@ pub fn find_runs<F: ReadAt>(
     Ok(None)
 }
 
-/// Splits the rest of a file before the version at `offset`, and returns whether it could be split. The front of an o5
-/// file is read to check it, since the byte before `offset` may not be a reset.
+/// Splits the rest of a file before the version at `offset`, and returns whether it could be split. The keys of the
+/// front of an o5 file are read to check it, since the byte before `offset` may not be a reset.
 fn split_before<F: ReadAt>(
     alloc: Global,
     file: &F,
@@ -139,12 +142,36 @@ pub(crate) fn byte_at<F: ReadAt>(file: &F, offset: u64) -> Result<Option<u8>, Br
     }
 }
 
-/// Whether a run of a file is a sorted file.
+/// Whether a run of an o5 file is a sorted file, or consists of parts whose keys don't fall.
 ///
 /// # Errors
 ///
 /// `ReadFault` if the file can't be read; or `Memory`.
 fn is_sorted<F: ReadAt>(
+    alloc: Global,
+    file: &F,
+    input: usize,
+    size: u64,
+    run: SortedRun,
+) -> Result<bool, Fault>
+    ensures sorted { result ≡ Ok true → IfWhole (F.bytes file.now) size (λ all. IsSortedByKeys all run) }
+    ensures input { IfErr result (IsOfFile input) }
+    ensures failure { IfErr result (λ fault.
+        IfWhole (F.bytes file.now) size (λ all. IsReadFailure (F.fails file.now) fault)) }
+{
+    match order_of_run(alloc, file, input, size, run)? {
+        SetOrder::Rises => Ok(true),
+        SetOrder::Falls(_) => Ok(false),
+        SetOrder::Unknown => is_sorted_whole(alloc, file, input, size, run),
+    }
+}
+
+/// Whether a run of a file, which is read whole, is a sorted file.
+///
+/// # Errors
+///
+/// `ReadFault` if the file can't be read; or `Memory`.
+fn is_sorted_whole<F: ReadAt>(
     alloc: Global,
     file: &F,
     input: usize,
@@ -189,8 +216,8 @@ fn first_unsorted<F: ReadAt>(
     }
 }
 
-/// The offset in the file of the first version of a run whose key is below that of the version before it. Of lines only
-/// the keys are read.
+/// The offset in the file of the first version of a run whose key is below that of the version before it. Of lines and
+/// data sets only the keys are read.
 ///
 /// # Errors
 ///
@@ -213,7 +240,30 @@ fn find_break<F: ReadAt>(
         let end = run.start.saturating_add(run.size).min(size);
         first_falling(alloc, file, input, run.start, end)
     } else {
-        read_run(alloc, file, input, size, run)
+        find_break_of_sets(alloc, file, input, size, run)
+    }
+}
+
+/// The same for a run of data sets. Only the keys are read, unless a data set has another form: then the run is read
+/// whole.
+///
+/// # Errors
+///
+/// As for [`find_break`].
+fn find_break_of_sets<F: ReadAt>(
+    alloc: Global,
+    file: &F,
+    input: usize,
+    size: u64,
+    run: SortedRun,
+) -> Result<Option<u64>, Fault>
+    ensures order { IfWhole (F.bytes file.now) size (λ all. IsBreakOf (F.fails file.now) all run result) }
+    ensures input { IfErr result (IsOfFile input) }
+{
+    match order_of_run(alloc, file, input, size, run)? {
+        SetOrder::Rises => Ok(None),
+        SetOrder::Falls(offset) => Ok(Some(offset)),
+        SetOrder::Unknown => read_run(alloc, file, input, size, run),
     }
 }
 

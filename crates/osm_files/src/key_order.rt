@@ -14,7 +14,7 @@ use opl_line::{LineReader, OplReason, find_line_end};
 use std::alloc::Global;
 
 /// The number of bytes of a window. A window is larger only if a line doesn't end in it.
-const WINDOW: u64 = 65536;
+pub(crate) const WINDOW: u64 = 65536;
 
 /// Lines whose keys don't fall.
 #[derive(Clone, Copy, Debug)]
@@ -98,7 +98,7 @@ impl StopAt {
 /// # Errors
 ///
 /// `ReadFault` if the file can't be read or is shorter; or `Memory`.
-fn read_exact<F: ReadAt>(
+pub(crate) fn read_exact<F: ReadAt>(
     alloc: Global,
     file: &F,
     input: usize,

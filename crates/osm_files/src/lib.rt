@@ -24,6 +24,8 @@ mod read_buffer;
 mod reading;
 mod reason;
 mod recorded;
+mod set_key;
+mod set_order;
 mod sink;
 mod sorted_run;
 mod source;

@@ -24,9 +24,12 @@ const MOST_NUMBER_DIGITS: usize = 9;
 /// The key of a version.
 #[derive(Clone, Copy, Debug)]
 pub(crate) struct Key {
-    kind: Kind,
-    id: i64,
-    number: u64,
+    /// The kind of the version's object.
+    pub(crate) kind: Kind,
+    /// The id of the object.
+    pub(crate) id: i64,
+    /// The version number.
+    pub(crate) number: u64,
 }
 
 impl Key {

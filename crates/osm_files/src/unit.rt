@@ -111,14 +111,15 @@ fn read_header(bytes: &[u8]) -> Result<Option<ReadUnit>, Reason>
     no_version(7)
 }
 
-fn is_header(bytes: &[u8]) -> bool
+/// Whether `bytes` are the header of o5m or of o5c.
+pub(crate) fn is_header(bytes: &[u8]) -> bool
     ensures { result ≡ spec.is_header bytes.now }
 {
     bytes == O5M_HEADER.as_slice() || bytes == O5C_HEADER.as_slice()
 }
 
 /// The kind of object of a type byte.
-fn kind_of_type(byte: u8) -> Option<Kind>
+pub(crate) fn kind_of_type(byte: u8) -> Option<Kind>
     ensures { result ≡ o5.kind_of_type byte }
 {
     match byte {
@@ -130,7 +131,7 @@ fn kind_of_type(byte: u8) -> Option<Kind>
 }
 
 /// Whether a byte is a lone one, which is skipped.
-fn is_lone(byte: u8) -> bool
+pub(crate) fn is_lone(byte: u8) -> bool
     ensures { result ≡ o5.is_lone byte }
 {
     byte >= 0xf0 && byte <= 0xfd

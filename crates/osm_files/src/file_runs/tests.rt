@@ -14,6 +14,17 @@ const DATA_SETS: &[u8] =
 const WITHOUT_RESET: &[u8] =
     b"\xff\xe0\x04o5m2\x10\x05\x04\x01\x00\x02\x04\x10\x05\x01\x01\x00\x00\x00\xfe";
 
+/// The same as `DATA_SETS`, but the first node's user is a reference to an empty string table.
+const FAULTY_SET: &[u8] =
+    b"\xff\xe0\x04o5m2\x10\x05\x04\x01\x02\x00\x09\xff\x10\x05\x02\x01\x00\x02\x04\xfe";
+
+/// A node whose data set is cut by the file's end.
+const CUT_SET: &[u8] = b"\xff\xe0\x04o5m2\x10\x06\x04\x01\x00\x02\xfe";
+
+/// The same two nodes with a byte `ff` between them that isn't a reset, but the content of a skipped data set.
+const WITHIN_A_SET: &[u8] =
+    b"\xff\xe0\x04o5m2\x10\x05\x04\x01\x00\x02\x04\xdb\x01\xff\x10\x05\x01\x01\x00\x00\x00\xfe";
+
 /// The runs of `file`, at most `most`: the offset of each, whether it lacks a header and the end byte, and the results
 /// of its source. `first` is the offset of the first version that is out of order, if it is known.
 fn runs_text(alloc: Global, file: &[u8], first: Option<u64>, most: usize) -> String {
@@ -79,6 +90,14 @@ fn runs_are_found(rt: HostRuntime) {
         ),
         (DATA_SETS, 1, "none\n"),
         (WITHOUT_RESET, 9, "none\n"),
+        (WITHIN_A_SET, 9, "none\n"),
+        (
+            FAULTY_SET,
+            2,
+            "0 false true\nfile 0, byte 7: BadReference\nfile 0, byte 0: Failed\nfile 0, byte 0: Failed\n\
+            15 true false\nn1 v1 dV c0 t i0 u T x0.0000001 y0.0000002\nend\nend\nend\n",
+        ),
+        (CUT_SET, 9, "file 3, byte 7: Truncated\n"),
     ] {
         assert_eq!(rt; runs_text(alloc, file, None, most).as_str(), text);
     }
