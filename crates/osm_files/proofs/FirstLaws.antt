@@ -1,9 +1,10 @@
 -- The first version of lines from an offset on.
-use Rattle.std.proofs.Common.{◌≡◌, ◌⊎◌, ⊎_elim, inl, inr, ℕ, ◌+◌, ◌-◌, ◌≤◌, ◌<◌, ◌^◌, Bool, true, false, List, [], ◌∷◌, ◌++◌, length, drop}
-use Rattle.std.proofs.Common.{refl, sym, ap, ◌∙◌, subst, arith, Option, Some, None, Result, Ok, Err, option_map, length-drop, length-append}
-use Rattle.std.specs.Prelude.{IfSome, if◌then◌else◌}
+use Rattle.std.proofs.Common.{◌≡◌, ◌⊎◌, ⊎_elim, inl, inr, ℕ, ◌+◌, ◌-◌, ◌≤◌, ◌<◌, ◌^◌, Bool, true, false, List, [], ◌∷◌, ◌++◌, length, take}
+use Rattle.std.proofs.Common.{refl, sym, ap, ◌∙◌, subst, arith, Option, Some, None, Result, Ok, Err, option_map, length-drop}
+use Rattle.std.specs.Prelude.{if◌then◌else◌}
 use Rattle.std.proofs.lemmas.Bool.{lt-ltb, ltb-false, ltb-true}
-use Rattle.std.proofs.lemmas.List.{append-nil, nil_from_length}
+use Rattle.std.proofs.lemmas.List.{append-nil}
+use Rattle.std.proofs.Math.Seq.{take-append-add}
 use Rattle.osm_model.specs.Data.{VersionData}
 use Rattle.osm_files.specs.declared.fault.Fault.{Fault}
 use Rattle.osm_files.specs.declared.reason.Reason.TheVariants.{ReadFault}
@@ -11,9 +12,8 @@ use Rattle.osm_files.specs.declared.extent.Extent.{Extent}
 use Rattle.osm_files.specs.Extent.{GivesExtent, extent_rest}
 use Rattle.osm_files.specs.ExtentGives.{extent_given}
 use Rattle.osm_files.specs.Fault.{IsOfFile}
-use Rattle.osm_files.specs.FileRuns.{IsReadFailure}
 use Rattle.osm_files.specs.Input.{InputRest, CanGive}
-use Rattle.osm_files.specs.Lines.{lines_from, IsLineStart, IsFirstOf, IsFirstIn, IsFirstFrom, IsDeviceFault}
+use Rattle.osm_files.specs.Lines.{bytes_between, IsFirstOf, IsFirstIn, IsFirstBetween}
 use Rattle.osm_files.specs.Opl.{OplFile}
 use Rattle.osm_files.specs.Position.{Position, fault_of, with_rest, with_input, units_from, units_or_failed, closing_verdict, window}
 use Rattle.osm_files.specs.ReadAt.{known_bytes}
@@ -22,7 +22,6 @@ use Rattle.osm_files.specs.Stream.{Verdict, verdict_at, Placed, SourceRest}
 use Rattle.osm_files.specs.Units.{InOpl, units}
 use Rattle.osm_files.specs.Verdict.{length_limit, versions_of}
 use Rattle.osm_files.proofs.FaultyLaws.{Units, Splits, splits}
-use Rattle.osm_files.proofs.LineStarts.{start_lines}
 use Rattle.osm_files.proofs.PositionLaws.{from_is}
 use Rattle.osm_files.proofs.UnitLaws.{ReadsAs, some_is_not_none, opl_reads}
 
@@ -79,21 +78,10 @@ first_listed us line more versions is same = subst (IsFirstOf (Some line.version
 none_listed : (us : List Placed) (versions : List VersionData) → us ≡ [] → versions_of us ≡ versions → IsFirstOf None versions
 none_listed us versions is same = subst (IsFirstOf None) (ap versions_of (sym is) ∙ same) refl
 
--- the result for the first version of some lines
-abbrev Finds : Type 0 → List ℕ → Result (Option VersionData) Fault → Type 0
-Finds Fails lines (Ok first) = (versions : List VersionData) → OplFile lines versions → IsFirstOf first versions
-Finds Fails lines (Err fault) = IsReadFailure Fails fault ⊎ ((versions : List VersionData) → OplFile lines versions → ⊥)
-
-found_from : (Fails : Type 0) (all : List ℕ) (offset : ℕ) (result : Result (Option VersionData) Fault) →
-    Finds Fails (lines_from offset all) result → IsFirstIn Fails all offset result
-found_from Fails all offset (Ok first) h = h
-found_from Fails all offset (Err fault) (inl failure) = inl (inl failure)
-found_from Fails all offset (Err fault) (inr none) = inr none
-
 -- the result of the first call on the lines is a result for their first version
 first_in : (Fails : Type 0) (input place : ℕ) (bytes : List ℕ) (result : Result (Option Placed) Fault)
     (after : Option (SourceRest Placed Fault)) →
-    SourceStep (Some (with_input input (units None InOpl place bytes))) result after → Finds Fails bytes (version_read result)
+    SourceStep (Some (with_input input (units None InOpl place bytes))) result after → IsFirstIn Fails bytes (version_read result)
 first_in Fails input place bytes (Ok None) after step = λ versions file.
     let read = (reads_lines place bytes).read versions file in
     none_listed (units None InOpl place bytes).list versions (ap (λ s. s.list) step.0) read.1
@@ -110,7 +98,7 @@ first_in Fails input place bytes (Err fault) after (why, next) =
 first_of_front : (Fails : Type 0) → Fails → (input place : ℕ) (bytes more : List ℕ) (close : Verdict) → close.reason ≡ ReadFault
     → Splits InOpl place bytes → (result : Result (Option Placed) Fault) (later : Option (SourceRest Placed Fault)) →
     SourceStep (Some (with_input input (units (Some close) InOpl place bytes))) result later →
-    Finds Fails (bytes ++ more) (version_read result)
+    IsFirstIn Fails (bytes ++ more) (version_read result)
 first_of_front Fails may input place bytes more close fails (inr h) result later step =
     first_in Fails input place (bytes ++ more) result later
     (subst (λ (us : Units). SourceStep (Some (with_input input us)) result later) (h.faulty close ∙ sym (h.stays more None)) step)
@@ -137,34 +125,39 @@ first_of : (Fails : Type 0) (input place : ℕ) (lines bytes : List ℕ) (broken
     (result : Result (Option Placed) Fault) (later : Option (SourceRest Placed Fault)) →
     SourceStep (Some (with_input input (units (closing place (record { bytes = bytes; broken = broken })) InOpl place bytes))) result later
     →
-    Finds Fails lines (version_read result)
+    IsFirstIn Fails lines (version_read result)
 first_of Fails input place lines bytes true failing (rest, is, whole) result later step =
-    subst (λ (xs : List ℕ). Finds Fails xs (version_read result)) (sym is)
+    subst (λ (xs : List ℕ). IsFirstIn Fails xs (version_read result)) (sym is)
     (first_of_front Fails (failing refl) input place bytes rest (verdict_at (place + length bytes) ReadFault) refl
     (splits (length bytes) InOpl place bytes (omega arith)) result later step)
 first_of Fails input place lines bytes false failing (rest, is, whole) result later step =
-    subst (λ (xs : List ℕ). Finds Fails xs (version_read result)) (sym (is ∙ ap (λ r. bytes ++ r) (whole refl) ∙ append-nil bytes))
+    subst (λ (xs : List ℕ). IsFirstIn Fails xs (version_read result)) (sym (is ∙ ap (λ r. bytes ++ r) (whole refl) ∙ append-nil bytes))
     (first_in Fails input place bytes result later step)
 
--- an extent up to the end of a file gives all of its bytes from the offset on, or a front of them and then an error
-extent_can : (Fails : Type 0) (all : List ℕ) (start : ℕ) (c : InputRest) → GivesExtent Fails (Some all) start (length all) c →
-    CanGive (Some (drop start all)) c
-extent_can Fails all start c gives = (
-  gives.bytes.0,
-  gives.bytes.1,
-  λ whole. (
-      let long : length all - start ≤ length c.bytes = ltb-false (length c.bytes) (length all - start) (sym gives.broken ∙ whole) in
-      nil_from_length gives.bytes.0
-      (omega (arith, long, length-drop start all, ap length gives.bytes.1, length-append c.bytes gives.bytes.0))),
-)
+-- an extent within a file gives all of its bytes there, or a front of them and then an error
+extent_can : (Fails : Type 0) (all : List ℕ) (start end : ℕ) (c : InputRest) → GivesExtent Fails (Some all) start end c →
+    CanGive (Some (bytes_between start end all)) c
+extent_can Fails all start end c gives =
+    let size = length c.bytes in
+    let left = end - start - size in
+    let few = gives.within in
+    let room : end - start ≡ size + left = omega (arith, few) in (
+      take left gives.bytes.0,
+      ap (take (end - start)) gives.bytes.1 ∙ ap (λ n. take n (c.bytes ++ gives.bytes.0)) room
+          ∙ take-append-add c.bytes gives.bytes.0 left,
+      λ whole. (
+          let long : end - start ≤ size = ltb-false size (end - start) (sym gives.broken ∙ whole) in
+          let none : left ≡ 0 = omega (arith, long) in
+          ap (λ n. take n gives.bytes.0) none),
+    )
 
--- if an extent up to the end of a file fails, reads of the file may fail
-extent_fails : (Fails : Type 0) (all : List ℕ) (start : ℕ) (c : InputRest) → GivesExtent Fails (Some all) start (length all) c →
-    c.broken ≡ true → Fails
-extent_fails Fails all start c gives broken =
-    let short = ltb-true (length c.bytes) (length all - start) (sym gives.broken ∙ broken) in
+-- if an extent within a file fails, reads of the file may fail
+extent_fails : (Fails : Type 0) (all : List ℕ) (start end : ℕ) (c : InputRest) → GivesExtent Fails (Some all) start end c →
+    end ≤ length all → c.broken ≡ true → Fails
+extent_fails Fails all start end c gives within broken =
+    let short = ltb-true (length c.bytes) (end - start) (sym gives.broken ∙ broken) in
     ⊎_elim (λ fails. fails)
-    (λ last. absurd (omega (arith, short, ap length last, length-drop start all)))
+    (λ last. absurd (omega (arith, short, ap length last, length-drop start all, within)))
     (gives.why short)
 
 refusal_input : (input : ℕ) (refusal : Option Verdict) (fault : Fault) → option_map (fault_of input) refusal ≡ Some fault →
@@ -173,25 +166,20 @@ refusal_input input None fault is = absurd (let e : None ≡ Some fault = is in 
 refusal_input input (Some v) fault is = let e : fault_of input v ≡ fault = cc in ap (λ f. f.input) (sym e)
 
 module _ {R : Type 0} (can : R → InputRest → Type 0) (one : R → InputRest) (possible : (r : R) → can r (one r)) (input : ℕ) where
-  -- The result of the first call on the lines from `start` on is a result for the first version of the lines from `offset` on.
-  first_given : (Fails : Type 0) (bytes : Option (List ℕ)) (offset start size : ℕ) (reader : R) → IsLineStart bytes offset start →
-      start < 2 ^ 62 → IfSome bytes (λ all. size ≡ length all) →
-      ((c : InputRest) → can reader c → GivesExtent Fails bytes start size c) → (result : Result (Option Placed) Fault)
-      (q : Position R) → StepsOn can (of_lines input start reader) result q → IsFirstFrom Fails bytes offset (version_read result)
-  first_given Fails None offset start size reader begins bound sized gives result q steps = tt
-  first_given Fails (Some all) offset start size reader begins bound sized gives result q steps = λ short.
+  -- The result of the first call on the lines from `start` up to `end` is a result for their first version.
+  first_given : (Fails : Type 0) (bytes : Option (List ℕ)) (start end : ℕ) (reader : R) → start < 2 ^ 62 →
+      ((c : InputRest) → can reader c → GivesExtent Fails bytes start end c) → (result : Result (Option Placed) Fault)
+      (q : Position R) → StepsOn can (of_lines input start reader) result q → IsFirstBetween Fails bytes start end (version_read result)
+  first_given Fails None start end reader bound gives result q steps = tt
+  first_given Fails (Some all) start end reader bound gives result q steps = λ short rises within.
       let y = steps (one q.rest) (possible q.rest) in
       let later : Option (SourceRest Placed Fault) = units_or_failed (with_rest q (one q.rest)) in
-      let extent : GivesExtent Fails (Some all) start (length all) y.0 =
-      subst (λ n. GivesExtent Fails (Some all) start n y.0) sized (gives y.0 y.1) in
-      let given : CanGive (Some (drop start all)) y.0 = extent_can Fails all start y.0 extent in
-      let lines : drop start all ≡ lines_from offset all = ap (λ n. drop n all) begins ∙ start_lines offset all in
-      let few : start + length y.0.bytes < 2 ^ 62 =
-      omega (arith, bound, short, length-drop start all, ap length given.1, length-append y.0.bytes given.0) in
-      found_from Fails all offset (version_read result)
-      (subst (λ (lines : List ℕ). Finds Fails lines (version_read result)) lines
-      (first_of Fails input start (drop start all) y.0.bytes y.0.broken (extent_fails Fails all start y.0 extent) given result later
-      (subst (λ us. SourceStep (Some (with_input input us)) result later) (units_of_lines start y.0 few) y.2)))
+      let extent : GivesExtent Fails (Some all) start end y.0 = gives y.0 y.1 in
+      let size = extent.within in
+      let few : start + length y.0.bytes < 2 ^ 62 = omega (arith, short, within, rises, size) in
+      first_of Fails input start (bytes_between start end all) y.0.bytes y.0.broken (extent_fails Fails all start end y.0 extent within)
+      (extent_can Fails all start end y.0 extent) result later
+      (subst (λ us. SourceStep (Some (with_input input us)) result later) (units_of_lines start y.0 few) y.2)
 
   -- a fault of the first call on the lines has the number of the file
   number_given : (start : ℕ) (reader : R) (fault : Fault) (q : Position R) →
@@ -216,13 +204,11 @@ module _ {F : Type 0} (fails : F → Type 0) (bytes : F → Option (List ℕ)) w
     steps : StepsOn Given (of_lines input start reader) result q
     steps = subst (λ (r : Position (Extent F)). StepsOn Given r result q) begins step
 
-    -- The result of the first call on the lines of a file from `start` on, up to the file's end, is a result for the first version of
-    -- the lines from `offset` on.
-    pub first_is : (file : F) (offset size : ℕ) → reader.file.now ≡ file → reader.next ≡ start → reader.end ≡ size
-        → IsLineStart (bytes file) offset start → start < 2 ^ 62 → IfSome (bytes file) (λ all. size ≡ length all)
-        → IsFirstFrom (fails file) (bytes file) offset (version_read result)
-    first_is file offset size same from upto lines bound sized =
-        first_given Given one possible input (fails file) (bytes file) offset start size reader lines bound sized
+    -- The result of the first call on the lines of a file from `start` up to `end` is a result for their first version.
+    pub first_is : (file : F) (end : ℕ) → reader.file.now ≡ file → reader.next ≡ start → reader.end ≡ end → start < 2 ^ 62
+        → IsFirstBetween (fails file) (bytes file) start end (version_read result)
+    first_is file end same from upto bound =
+        first_given Given one possible input (fails file) (bytes file) start end reader bound
         (λ c. subst (λ (t : F × ℕ × ℕ). GivesExtent (fails t.0) (bytes t.0) t.1 t.2 c) (λ i. (same i, from i, upto i))) result q steps
 
     -- A fault of the first call has the number of the file.
@@ -230,12 +216,6 @@ module _ {F : Type 0} (fails : F → Type 0) (bytes : F → Option (List ℕ)) w
     first_number fault is =
         number_given Given one possible input start reader fault q
         (subst (λ r. StepsOn Given (of_lines input start reader) r q) is steps)
-
--- a device fault is a result for the first version
-pub device_fault : (Fails : Type 0) (bytes : Option (List ℕ)) (offset : ℕ) (fault : Fault) → IsDeviceFault Fails bytes offset fault
-    → IsFirstFrom Fails bytes offset (Err fault)
-device_fault Fails None offset fault h = tt
-device_fault Fails (Some all) offset fault h = λ short. inl h
 
 -- the lines of a file spell one list of versions
 pub one_opl : (bytes : List ℕ) (versions others : List VersionData) → OplFile bytes versions → OplFile bytes others → versions ≡ others

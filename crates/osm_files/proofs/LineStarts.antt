@@ -1,6 +1,6 @@
 -- The offsets at which lines begin in a file.
-use Rattle.std.proofs.Common.{◌≡◌, ℕ, zero, suc, ◌+◌, ◌-◌, ◌≤◌, ◌<◌, max, ◌^◌, true, false, cond, not, Bool, List, [], ◌∷◌, ◌++◌, length}
-use Rattle.std.proofs.Common.{drop, refl, sym, ap, ◌∙◌, arith, Option, Some, None, ◌⊎◌, inl, inr, ⊎_elim, length-drop, length-append, subst}
+use Rattle.std.proofs.Common.{◌≡◌, ℕ, zero, suc, ◌+◌, ◌-◌, ◌≤◌, ◌<◌, true, false, cond, not, Bool, List, [], ◌∷◌, ◌++◌, length}
+use Rattle.std.proofs.Common.{drop, refl, sym, ap, ◌∙◌, arith, Option, Some, None, ◌⊎◌, inl, inr, ⊎_elim, length-drop, subst}
 use Rattle.std.proofs.lemmas.List.{drop-drop}
 use Rattle.std.specs.Prelude.{position, IfSome}
 use Rattle.std.specs.List.{position_or_len}
@@ -143,72 +143,90 @@ starts_rise offset later all low =
     let is = ap (λ n. line_start_from n all) e in
     omega (arith, on, is)
 
--- ---- the search
--- the first line from `offset` on begins after the first end of a line at `place` or after it
-pub record Scan (all : List ℕ) (offset place : ℕ) : Type 0 where
-  pub start : line_start_from offset all ≡ place + line_size (drop place all)
-  pub near : place ≤ max (length all) offset
+-- The first line from an offset on is the first one from a later offset on, if it doesn't begin before that.
+start_same : (offset : ℕ) (all : List ℕ) → suc offset ≤ line_start_from offset all →
+    line_start_from (suc offset) all ≡ line_start_from offset all
+start_same zero all late = absurd (omega (arith, late))
+start_same (suc n) all late =
+    ⊎_elim (λ none. absurd (let few = ap line_size none.0 in omega (arith, few, late)))
+    (λ (b, is). let one = ap line_size is in elim (is_line_end b) as (λ t. cond t 1 (suc (line_size (drop (suc n) all)))
+    ≡ line_size (drop n all) → suc n + line_size (drop (suc n) all) ≡ n + line_size (drop n all)) [
+      | true ↦ λ e. absurd (omega (arith, e, late))
+      | false ↦ λ e. omega (arith, e)
+    ] (sym one)) (next_drop n all)
 
--- the same, if the file's bytes are known
+same_on : (more offset : ℕ) (all : List ℕ) → offset + more ≤ line_start_from offset all →
+    line_start_from (offset + more) all ≡ line_start_from offset all
+same_on zero offset all late = let e : offset + 0 ≡ offset = omega arith in ap (λ n. line_start_from n all) e
+same_on (suc more) offset all late =
+    let e : offset + suc more ≡ suc (offset + more) = omega arith in
+    let so_far = same_on more offset all (omega (arith, late)) in
+    ap (λ n. line_start_from n all) e ∙ start_same (offset + more) all (omega (arith, late, so_far)) ∙ so_far
+
+pub one_start : (offset later : ℕ) (all : List ℕ) → offset ≤ later → later ≤ line_start_from offset all →
+    line_start_from later all ≡ line_start_from offset all
+one_start offset later all low late =
+    let e : offset + (later - offset) ≡ later = omega (arith, low) in
+    ap (λ n. line_start_from n all) (sym e) ∙ same_on (later - offset) offset all (omega (arith, low, late))
+
+-- ---- the search
+-- the first line from `offset` on begins after the first end of a line at `place` or after it, if the file's bytes are known
 abbrev pub Scanned : Option (List ℕ) → ℕ → ℕ → Type 0
-Scanned bytes offset place = IfSome bytes (λ all. Scan all offset place)
+Scanned bytes offset place = IfSome bytes (λ all. line_start_from offset all ≡ place + line_size (drop place all))
 
 pub scanned_nothing : (bytes : Option (List ℕ)) (offset : ℕ) → 0 < offset → Scanned bytes offset (offset - 1)
 scanned_nothing None offset some = tt
 scanned_nothing (Some all) zero some = absurd (omega (arith, some))
-scanned_nothing (Some all) (suc n) some = let e : suc n - 1 ≡ n = omega arith in rw e (record { start = refl; near = omega arith })
-
--- the bytes that were read are within the file
-read_within : (all read rest : List ℕ) (place : ℕ) → drop place all ≡ read ++ rest → length read ≤ length all - place
-read_within all read rest place at = omega (arith, length-drop place all, ap length at, length-append read rest)
+scanned_nothing (Some all) (suc n) some = let e : suc n - 1 ≡ n = omega arith in rw e refl
 
 -- A search that reads bytes without an end of a line continues after these bytes.
 pub scans_on : (bytes : Option (List ℕ)) (offset place later : ℕ) (read : List ℕ) → Scanned bytes offset place → AreAt bytes place read
     → position is_line_end read ≡ None → later ≡ place + length read → Scanned bytes offset later
 scans_on None offset place later read so_far at none is = tt
 scans_on (Some all) offset place later read so_far (rest, at) none is =
-    let few = read_within all read rest place at in
-    let start = so_far.start in
-    let near = so_far.near in
     let size = ap line_size at ∙ size_len read rest (nowhere is_line_end read none) in
     let further = ap line_size (after_front all read rest place at) in
-    rw is (record { start = omega (arith, start, size, further); near = omega (arith, near, few) })
+    rw is (omega (arith, so_far, size, further))
 
 -- A search that reads an end of a line finds the line that begins after it.
-pub scan_finds : (bytes : Option (List ℕ)) (offset place start : ℕ) (read : List ℕ) (end : ℕ) → Scanned bytes offset place
-    → AreAt bytes place read → position is_line_end read ≡ Some end → start ≡ place + (end + 1) → IsLineStart bytes offset start
-scan_finds None offset place start read end so_far at found is = tt
-scan_finds (Some all) offset place start read end so_far (rest, at) found is =
-    let line = somewhere is_line_end read end found in
-    let size = ap line_size at ∙ size_at read rest end line.0 line.1 in
-    let begun = so_far.start in
-    omega (arith, is, size, begun)
-
--- A search that finds a line at 2^62 or after it is one in a file of 2^62 bytes or more.
-pub scan_is_long : (bytes : Option (List ℕ)) (offset place start : ℕ) (read : List ℕ) (end : ℕ) → AreAt bytes place read
-    → position is_line_end read ≡ Some end → start ≡ place + (end + 1) → 2 ^ 62 ≤ start
-    → IfSome bytes (λ all. 2 ^ 62 ≤ max (length all) offset)
-scan_is_long None offset place start read end at found is long = tt
-scan_is_long (Some all) offset place start read end (rest, at) found is long =
-    let line = somewhere is_line_end read end found in
+pub scan_finds : (bytes : Option (List ℕ)) (offset end place start : ℕ) (read : List ℕ) (last : ℕ) → Scanned bytes offset place
+    → AreAt bytes place read → position is_line_end read ≡ Some last → start ≡ place + (last + 1) → length read ≤ end - place
+    → IsLineStart bytes offset end start
+scan_finds None offset end place start read last so_far at found is few = tt
+scan_finds (Some all) offset end place start read last so_far (rest, at) found is few =
+    let line = somewhere is_line_end read last found in
     let near = line.1 in
-    let few = read_within all read rest place at in
-    omega (arith, is, long, near, few)
+    let size = ap line_size at ∙ size_at read rest last line.0 line.1 in
+    omega (arith, is, size, so_far, near, few)
 
--- A search that comes to 2^62 is one in a file of 2^62 bytes or more, or from 2^62 on or later.
-pub scan_stops : (bytes : Option (List ℕ)) (offset place : ℕ) → Scanned bytes offset place → 2 ^ 62 ≤ place
-    → IfSome bytes (λ all. 2 ^ 62 ≤ max (length all) offset)
-scan_stops None offset place so_far long = tt
-scan_stops (Some all) offset place so_far long = let near = so_far.near in omega (arith, near, long)
+-- A search that comes to its end finds no line before that.
+pub scan_stops : (bytes : Option (List ℕ)) (offset end place : ℕ) → Scanned bytes offset place → end ≤ place
+    → IsLineStart bytes offset end end
+scan_stops None offset end place so_far over = tt
+scan_stops (Some all) offset end place so_far over = omega (arith, so_far, over)
 
 -- After the last byte no line begins.
-pub scan_ends : (bytes : Option (List ℕ)) (offset place : ℕ) → Scanned bytes offset place → AreLast bytes place []
-    → IsLineStart bytes offset place
-scan_ends None offset place so_far last = tt
-scan_ends (Some all) offset place so_far last =
-    let start = so_far.start in let none = ap line_size last in omega (arith, start, none)
+pub scan_ends : (bytes : Option (List ℕ)) (offset end place : ℕ) → Scanned bytes offset place → AreLast bytes place [] → place < end
+    → IsLineStart bytes offset end place
+scan_ends None offset end place so_far last before = tt
+scan_ends (Some all) offset end place so_far last before =
+    let none = ap line_size last in omega (arith, so_far, none, before)
 
 -- the first line begins at the file's first byte
-pub first_start : (bytes : Option (List ℕ)) → IsLineStart bytes 0 0
-first_start None = tt
-first_start (Some all) = refl
+pub first_start : (bytes : Option (List ℕ)) (end : ℕ) → IsLineStart bytes 0 end 0
+first_start None end = tt
+first_start (Some all) end = omega arith
+
+-- A line that begins before the end of a search is found by each longer search.
+pub start_near : (bytes : Option (List ℕ)) (offset near end start : ℕ) → IsLineStart bytes offset near start → near ≤ end
+    → (start < near) ⊎ (near ≡ end) → IsLineStart bytes offset end start
+start_near None offset near end start is low early = tt
+start_near (Some all) offset near end start is low early =
+    ⊎_elim (λ before. omega (arith, is, low, before)) (λ same. omega (arith, is, same)) early
+
+-- A search that finds no line before its end continues there.
+pub start_far : (bytes : Option (List ℕ)) (offset near end start later : ℕ) → offset ≤ near → IsLineStart bytes offset near start
+    → near ≤ start → IsLineStart bytes near end later → IsLineStart bytes offset end later
+start_far None offset near end start later low is late far = tt
+start_far (Some all) offset near end start later low is late far =
+    let same = one_start offset near all low (omega (arith, is, late)) in omega (arith, far, same)

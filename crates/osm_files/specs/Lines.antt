@@ -1,11 +1,10 @@
 -- The lines of an OPL file from an offset on: an own rule of this project.
-use Rattle.std.specs.Prelude.{◌≡◌, ◌⊎◌, ℕ, zero, suc, ◌+◌, ◌<◌, ◌≤◌, ◌^◌, max, List, [], ◌∷◌, length, drop, Option}
-use Rattle.std.specs.Prelude.{Some}
+use Rattle.std.specs.Prelude.{◌≡◌, ◌⊎◌, ℕ, zero, suc, ◌+◌, ◌-◌, ◌<◌, ◌≤◌, ◌^◌, min, List, [], ◌∷◌, length, take, drop}
+use Rattle.std.specs.Prelude.{Option, Some}
 use Rattle.std.specs.Prelude.{None, IfSome, Result, Ok, Err, if◌then◌else◌}
 use Rattle.osm_model.specs.Data.{VersionData}
 use Rattle.opl_line.specs.Delimiter.{is_line_end}
 use Rattle.osm_files.specs.declared.fault.Fault.{Fault}
-use Rattle.osm_files.specs.declared.reason.Reason.TheVariants.{TooLong}
 use Rattle.osm_files.specs.FileRuns.{IsReadFailure}
 use Rattle.osm_files.specs.Opl.{OplFile}
 
@@ -34,30 +33,28 @@ line_start_from (suc offset) bytes = offset + line_size (drop offset bytes)
 abbrev pub BeginsLine : List ℕ → ℕ → Type 0
 BeginsLine bytes offset = line_start_from offset bytes ≡ offset
 
--- `start` is the offset of the first line that begins at `offset` or after it, if the file's bytes are known
-abbrev pub IsLineStart : Option (List ℕ) → ℕ → ℕ → Type 0
-IsLineStart bytes offset start = IfSome bytes (λ all. start ≡ line_start_from offset all)
+-- `start` is the offset of the first line that begins at `offset` or after it, or `end` if that is less, if the file's
+-- bytes are known
+abbrev pub IsLineStart : Option (List ℕ) → ℕ → ℕ → ℕ → Type 0
+IsLineStart bytes offset end start = IfSome bytes (λ all. start ≡ min (line_start_from offset all) end)
+
+-- the bytes from one offset up to another
+abbrev pub bytes_between : ℕ → ℕ → List ℕ → List ℕ
+bytes_between start end bytes = take (end - start) (drop start bytes)
 
 -- `first` is the first of the versions, or none if there are no versions
 abbrev pub IsFirstOf : Option VersionData → List VersionData → Type 0
 IsFirstOf first [] = first ≡ None
 IsFirstOf first (v ∷ versions) = first ≡ Some v
 
--- The fault of a search from an offset on is out of memory, or that the file can't be read; or the file or the offset
--- isn't below 2^62, as far as the file's bytes are known. `Fails` holds if reads of the file may fail.
-abbrev pub IsDeviceFault : Type 0 → Option (List ℕ) → ℕ → Fault → Type 0
-IsDeviceFault Fails bytes offset fault = IsReadFailure Fails fault
-    ⊎ ((fault.reason ≡ TooLong) × IfSome bytes (λ all. 2 ^ 62 ≤ max (length all) offset))
+-- The result for the first version of lines: it is the first of the versions that the lines spell as an OPL file. If it
+-- is a fault, but not a failure to read, the lines aren't an OPL file. `Fails` holds if reads of the file may fail.
+abbrev pub IsFirstIn : Type 0 → List ℕ → Result (Option VersionData) Fault → Type 0
+IsFirstIn Fails lines (Ok first) = (versions : List VersionData) → OplFile lines versions → IsFirstOf first versions
+IsFirstIn Fails lines (Err fault) =
+    IsReadFailure Fails fault ⊎ ((versions : List VersionData) → OplFile lines versions → ⊥)
 
--- The result for the first version of the lines that begin at an offset or after it: it is the first of the versions
--- that the lines spell as an OPL file. If it is a fault, but not a device fault, the lines aren't an OPL file.
-abbrev pub IsFirstIn : Type 0 → List ℕ → ℕ → Result (Option VersionData) Fault → Type 0
-IsFirstIn Fails all offset (Ok first) =
-    (versions : List VersionData) → OplFile (lines_from offset all) versions → IsFirstOf first versions
-IsFirstIn Fails all offset (Err fault) = IsDeviceFault Fails (Some all) offset fault
-    ⊎ ((versions : List VersionData) → OplFile (lines_from offset all) versions → ⊥)
-
--- the same, if the file's bytes are known and aren't too many
-abbrev pub IsFirstFrom : Type 0 → Option (List ℕ) → ℕ → Result (Option VersionData) Fault → Type 0
-IsFirstFrom Fails bytes offset result =
-    IfSome bytes (λ all. length all < 2 ^ 62 → IsFirstIn Fails all offset result)
+-- the same for the lines from one offset of a file up to another, if the file's bytes are known and aren't too many
+abbrev pub IsFirstBetween : Type 0 → Option (List ℕ) → ℕ → ℕ → Result (Option VersionData) Fault → Type 0
+IsFirstBetween Fails bytes start end result = IfSome bytes (λ all. length all < 2 ^ 62 → start ≤ end →
+    end ≤ length all → IsFirstIn Fails (bytes_between start end all) result)

@@ -1,8 +1,8 @@
 //! The lines of an OPL file from an offset on.
-ghost use Rattle.std.specs.Prelude.{◌≡◌, ◌<◌, ◌≤◌, ◌^◌, IfOk, IfErr};
-ghost use Rattle.osm_files.specs.declared.reason.Reason.TheVariants.{TooLong};
+ghost use Rattle.std.specs.Prelude.{◌≡◌, ◌<◌, ◌≤◌, ◌^◌, length, IfOk, IfErr};
 ghost use Rattle.osm_files.specs.Fault.{IsOfFile};
-ghost use Rattle.osm_files.specs.Lines.{IsLineStart, IsDeviceFault, IsFirstFrom};
+ghost use Rattle.osm_files.specs.FileRuns.{IsReadFailure};
+ghost use Rattle.osm_files.specs.Lines.{IsLineStart, IsFirstBetween};
 
 use crate::extent::Extent;
 use crate::fault::{Fault, LENGTH_LIMIT};
@@ -14,80 +14,102 @@ use opl_line::find_line_end;
 use osm_model::Version;
 use std::alloc::Global;
 
-/// The number of bytes that one read asks for in the search for the end of a line.
-const LINE_CHUNK: usize = 1024;
+/// The number of bytes that the first read of a search asks for.
+const NEAR: usize = 4096;
 
-/// The offset of the first line that begins at `offset` or after it. A line begins at 0 and after each end of a line.
-/// If no line begins there, the result is the file's length, or `offset - 1` if that is more.
+/// The number of bytes that each later read in the search for the end of a line asks for.
+const FAR: usize = 65536;
+
+/// The offset of the first line that begins at `offset` or after it, or `end` if that is less. A line begins at 0 and
+/// after each end of a line. If no line begins at `offset` or after it, the file's length counts as the offset of one,
+/// or `offset - 1` if that is more.
+///
+/// No byte before `offset - 1` or from `end` on is read. So a caller that knows the first line from `end` on finds the
+/// first line from `offset` on, and reads the bytes between these two offsets only.
 ///
 /// # Errors
 ///
-/// `ReadFault` if the file can't be read. `TooLong` if the result would be 2^62 or more: the file has 2^62 bytes or
-/// more, or `offset` is that much. `input` is the file's number.
-pub fn line_start<F: ReadAt>(file: &F, input: usize, offset: u64) -> Result<u64, Fault>
-    ensures start { IfOk result (IsLineStart (F.bytes file.now) offset) }
-    ensures bound { IfOk result (λ start. start < 2 ^ 62) }
-    ensures refused { IfErr result (IsDeviceFault (F.fails file.now) (F.bytes file.now) offset) }
+/// `ReadFault` if the file can't be read. `input` is the file's number.
+pub fn line_start<F: ReadAt>(file: &F, input: usize, offset: u64, end: u64) -> Result<u64, Fault>
+    ensures start { IfOk result (IsLineStart (F.bytes file.now) offset end) }
+    ensures refused { IfErr result (IsReadFailure (F.fails file.now)) }
+    ensures number { IfErr result (IsOfFile input) }
+{
+    let near = offset.saturating_add(NEAR as u64).min(end);
+    let start = search(file, input, offset, near, &mut [0u8; NEAR])?;
+    if start < near || near == end {
+        return Ok(start);
+    }
+    search_far(file, input, near, end)
+}
+
+/// The result of [`line_start`] by large reads.
+///
+/// This is a function of its own because of its buffer: most searches end in their first read, and don't pay for it.
+#[inline(never)]
+fn search_far<F: ReadAt>(file: &F, input: usize, offset: u64, end: u64) -> Result<u64, Fault>
+    ensures start { IfOk result (IsLineStart (F.bytes file.now) offset end) }
+    ensures refused { IfErr result (IsReadFailure (F.fails file.now)) }
+    ensures number { IfErr result (IsOfFile input) }
+{
+    search(file, input, offset, end, &mut [0u8; FAR])
+}
+
+/// The result of [`line_start`] by reads into `buffer`.
+fn search<F: ReadAt>(
+    file: &F,
+    input: usize,
+    offset: u64,
+    end: u64,
+    buffer: &mut [u8],
+) -> Result<u64, Fault>
+    requires some { 0 < length buffer.old }
+    ensures start { IfOk result (IsLineStart (F.bytes file.now) offset end) }
+    ensures refused { IfErr result (IsReadFailure (F.fails file.now)) }
     ensures number { IfErr result (IsOfFile input) }
 {
     if offset == 0 {
         return Ok(0);
     }
-    let mut buffer = [0u8; LINE_CHUNK];
     // No line ends in the bytes from `offset - 1` up to `place`.
     let mut place = offset - 1;
-    'reads: loop {
-        if place >= LENGTH_LIMIT {
-            return Err(Fault::too_long(input));
-        }
-        let count = match file.read_at(&mut buffer, place) {
+    'reads: while place < end {
+        let most = (end - place).min(buffer.len() as u64) as usize;
+        let count = match file.read_at(&mut buffer[..most], place) {
             Ok(0) => return Ok(place),
             Ok(count) => count,
             Err(Broken) => return Err(Fault::at(input, place, Reason::ReadFault)),
         };
-        if let Some(end) = find_line_end(&buffer[..count]) {
-            return start_below_limit(input, place + end as u64 + 1);
+        if let Some(last) = find_line_end(&buffer[..count]) {
+            return Ok(place + last as u64 + 1);
         }
         place += count as u64;
     }
+    Ok(end)
 }
 
-/// Returns `start`, or `TooLong` if `start` isn't below the limit on a file's length.
-fn start_below_limit(input: usize, start: u64) -> Result<u64, Fault>
-    ensures same { IfOk result (λ same. same ≡ start) }
-    ensures bound { IfOk result (λ same. same < 2 ^ 62) }
-    ensures refused { IfErr result (λ fault. (fault.reason ≡ TooLong) × (2 ^ 62 ≤ start)) }
-    ensures number { IfErr result (IsOfFile input) }
-{
-    if start < LENGTH_LIMIT {
-        Ok(start)
-    } else {
-        Err(Fault::too_long(input))
-    }
-}
-
-/// The first version in the lines of an OPL file that begin at `offset` or after it; `None` if they hold no version.
+/// The first version in the lines of an OPL file from the offset `start`, at which a line begins, up to the offset
+/// `end`; `None` if they hold no version.
 ///
 /// # Errors
 ///
 /// The reason why the first line that isn't skipped can't be read, at the line's offset in the file. `ReadFault` if the
-/// file can't be read; `TooLong`; or `Memory`. `input` is the file's number.
+/// file can't be read; `TooLong` if `start` is 2^62 or more; or `Memory`. `input` is the file's number.
 pub fn first_version<F: ReadAt>(
     alloc: Global,
     file: &F,
     input: usize,
-    offset: u64,
+    start: u64,
+    end: u64,
 ) -> Result<Option<Version>, Fault>
-    ensures first { IsFirstFrom (F.fails file.now) (F.bytes file.now) offset result }
+    ensures first { IsFirstBetween (F.fails file.now) (F.bytes file.now) start end result }
     ensures number { IfErr result (IsOfFile input) }
 {
-    let start = line_start(file, input, offset)?;
-    let size = match file.size() {
-        Ok(size) => size,
-        Err(Broken) => return Err(Fault::at(input, offset, Reason::ReadFault)),
-    };
-    let mut lines = Reading::of_lines(alloc, input, start, Extent::new(file, start, size));
-    lines.set_chunk_size(LINE_CHUNK);
+    if start >= LENGTH_LIMIT {
+        return Err(Fault::too_long(input));
+    }
+    let mut lines = Reading::of_lines(alloc, input, start, Extent::new(file, start, end));
+    lines.set_first_chunk_size(NEAR);
     let first = lines.next();
     drop(lines);
     match first {

@@ -117,6 +117,13 @@ impl<R: Input> Reading<R> {
         self.read_buffer.set_chunk_size(chunk);
     }
 
+    /// Asks for about `chunk` bytes in the next read, and after it for as many as before this call.
+    pub(crate) fn set_first_chunk_size(&mut self, chunk: usize)
+        ensures { self.new ≡ self.old }
+    {
+        self.read_buffer.set_first_chunk_size(chunk);
+    }
+
     /// Reads more bytes, or detects that there are no more.
     #[inline(never)]
     fn fill(&mut self) -> Result<(), Fault>

@@ -1,4 +1,4 @@
--- Lines that are split at an offset, and the search for the offset at which a file is cut.
+-- The search for the offset at which a file is cut.
 use Rattle.std.proofs.Common.{◌≡◌, ◌⊎◌, inl, inr, ⊎_elim, ℕ, zero, suc, ◌+◌, ◌-◌, ◌≤◌, ◌<◌, ◌^◌, Bool, true, false, not, cond, List, []}
 use Rattle.std.proofs.Common.{◌∷◌}
 use Rattle.std.proofs.Common.{◌==◌}
@@ -20,87 +20,22 @@ use Rattle.opl_line.proofs.CutLaws.{cut_split}
 use Rattle.osm_files.specs.declared.fault.Fault.{Fault}
 use Rattle.osm_files.specs.ReadAt.{AreAt, AreLast}
 use Rattle.osm_files.specs.FileRuns.{IsReadFailure}
-use Rattle.osm_files.specs.Lines.{after_line, lines_from, line_start_from, BeginsLine, IsLineStart, IsFirstOf, IsFirstFrom}
-use Rattle.osm_files.specs.Lines.{IsDeviceFault}
+use Rattle.osm_files.specs.Lines.{after_line, lines_from, line_start_from, BeginsLine}
 use Rattle.osm_files.specs.Opl.{is_read, OplFile}
 use Rattle.osm_files.specs.Units.{InOpl, BeforeHeader, start_of}
 use Rattle.osm_files.proofs.FileLaws.{Rises, sorted_all}
 use Rattle.osm_files.proofs.FirstLaws.{one_opl}
-use Rattle.osm_files.proofs.JoinLaws.{Ended, SplitVersions, split_ended}
-use Rattle.osm_files.proofs.LineStarts.{start_lines, start_begins, starts_rise, next_drop}
+use Rattle.osm_files.proofs.JoinLaws.{SplitVersions}
+use Rattle.osm_files.proofs.LineStarts.{start_lines, start_begins, starts_rise, next_drop, one_start}
 use Rattle.osm_files.proofs.StartLaws.{opl_starts}
 use Rattle.osm_merge.specs.declared.object.Object.{Object}
 use Rattle.osm_merge.specs.Slice.{object_of, object_order, reaches, is_under}
 use Rattle.osm_merge.proofs.SliceLaws.{not_below}
-use Rattle.osm_mirror.specs.CutOffset.{IsCutAt, IsCutOf, IsCutRefusal, IsSearchRefusal, BeginsLinesOf, BeginsAs, IsUnderBefore}
-use Rattle.osm_mirror.specs.CutOffset.{first_is_under, IsFirstUnder}
-
--- ---- bytes that are split before the beginning of a line
--- the rest has the lines that begin after the front
-pub record SplitLines (bytes rest : List ℕ) : Type 0 where
-  pub front : List ℕ
-  pub whole : bytes ≡ front ++ rest
-  pub ends : (front ≡ []) ⊎ (rest ≡ []) ⊎ Ended front
-
--- the rest has the lines after the first one
-record SplitFirst (bytes rest : List ℕ) : Type 0 where
-  front : List ℕ
-  whole : bytes ≡ front ++ rest
-  ends : (rest ≡ []) ⊎ Ended front
-
-longer_front : (b : ℕ) (front : List ℕ) → Ended front → Ended (b ∷ front)
-longer_front b front e = record { text = b ∷ e.text; last = e.last; ends = e.ends; is = ap (λ f. b ∷ f) e.is }
-
-split_after : (bytes : List ℕ) → SplitFirst bytes (after_line bytes)
-split_after [] = record { front = []; whole = refl; ends = inl refl }
-split_after (b ∷ bytes) =
-    elim (is_line_end b) as (λ t. is_line_end b ≡ t → SplitFirst (b ∷ bytes) (cond t bytes (after_line bytes))) [
-      | true ↦ λ e. record { front = b ∷ []; whole = refl; ends = inr (record { text = []; last = b; ends = e; is = refl }) }
-      | false ↦ λ e. let more = split_after bytes in record {
-        front = b ∷ more.front;
-        whole = ap (λ f. b ∷ f) more.whole;
-        ends = ⊎_elim (λ none. inl none) (λ ended. inr (longer_front b more.front ended)) more.ends;
-      }
-    ] refl
-
-ended_after : (before front : List ℕ) → Ended front → Ended (before ++ front)
-ended_after before front e = record {
-  text = before ++ e.text;
-  last = e.last;
-  ends = e.ends;
-  is = ap (λ f. before ++ f) e.is ∙ sym (append_assoc before e.text (e.last ∷ []));
-}
-
--- The lines from an offset on are the last bytes. If there are such lines, they begin the file or follow an end of a line.
-pub split_lines : (offset : ℕ) (bytes : List ℕ) → SplitLines bytes (lines_from offset bytes)
-split_lines zero bytes = record { front = []; whole = refl; ends = inl refl }
-split_lines (suc offset) bytes = let more = split_after (drop offset bytes) in record {
-  front = take offset bytes ++ more.front;
-  whole =
-      sym (take-append-drop offset bytes) ∙ ap (λ f. take offset bytes ++ f) more.whole
-      ∙ sym (append_assoc (take offset bytes) more.front (after_line (drop offset bytes)));
-  ends = ⊎_elim (λ none. inr (inl none)) (λ ended. inr (inr (ended_after (take offset bytes) more.front ended))) more.ends;
-}
-
--- ---- versions of split lines
-pub split_versions : (bytes rest : List ℕ) (s : SplitLines bytes rest) (versions : List VersionData) → OplFile bytes versions →
-    SplitVersions s.front rest versions
-split_versions bytes rest s versions file =
-    ⊎_elim (λ none. record {
-      earlier = [];
-      later = versions;
-      are = refl;
-      first = subst (λ (b : List ℕ). OplFile b []) (sym none) tt;
-      second = subst (λ (b : List ℕ). OplFile b versions) (s.whole ∙ ap (λ f. f ++ rest) none) file;
-    })
-    (⊎_elim (λ none. record {
-      earlier = versions;
-      later = [];
-      are = sym (append-nil versions);
-      first = subst (λ (b : List ℕ). OplFile b versions) (s.whole ∙ ap (λ r. s.front ++ r) none ∙ append-nil s.front) file;
-      second = subst (λ (b : List ℕ). OplFile b []) (sym none) tt;
-    })
-    (λ ended. split_ended bytes s.front rest versions s.whole ended file)) s.ends
+use Rattle.osm_mirror.specs.declared.lines_from.LinesFrom.{LinesFrom}
+use Rattle.osm_mirror.specs.Bounds.{object_of_first}
+use Rattle.osm_mirror.specs.CutOffset.{IsCutAt, IsCutOf, IsCutRefusal, BeginsLinesOf, BeginsAs, IsUnderBefore, first_is_under}
+use Rattle.osm_mirror.specs.LinesFrom.{AreLines, AreLinesOf, is_below}
+use Rattle.osm_mirror.proofs.SplitLineLaws.{SplitLines, split_lines, split_versions, at_end}
 
 -- ---- one offset further
 -- the lines from the next offset on are the same, or the first one is left out
@@ -173,19 +108,6 @@ shorter bytes versions file =
       file = subst (λ (b : List ℕ). OplFile b pairs.0) (sym (after_is bytes)) (rest_pieces s.1 pairs.0 pairs.1);
       are = pairs.2;
     }
-
-nothing_left : (t : Bool) → cond {A = List ℕ} t [] [] ≡ []
-nothing_left true = refl
-nothing_left false = refl
-
-last_line : (b : ℕ) (bytes : List ℕ) → after_line (drop (length bytes) (b ∷ bytes)) ≡ []
-last_line b [] = nothing_left (is_line_end b)
-last_line b (c ∷ bytes) = last_line c bytes
-
--- no line begins at the end of a file
-at_end : (bytes : List ℕ) → lines_from (length bytes) bytes ≡ []
-at_end [] = refl
-at_end (b ∷ bytes) = last_line b bytes
 
 -- ---- sorted versions and a bound
 not_less : (r s : Ordering) → is_lt (ordering_then r s) ≡ false → is_lt r ≡ false
@@ -396,6 +318,20 @@ module _ (bound : Object) where
               (subst (OplFile (lines_from offset bytes)) (sym overs) low.lines),
         )
 
+  -- whether the object of the first version in the lines from an offset on is below the bound
+  abbrev IsFirstUnder : List ℕ → ℕ → Bool → Type 0
+  IsFirstUnder all offset is_below = length all < 2 ^ 62 → (versions : List VersionData) → OplFile (lines_from offset all) versions →
+      is_below ≡ first_is_under bound versions
+
+  under_first : (versions : List VersionData) → is_below bound (object_of_first versions) ≡ first_is_under bound versions
+  under_first [] = refl
+  under_first (v ∷ versions) = refl
+
+  lines_under : (all : List ℕ) (lines : LinesFrom) (t : Bool) → AreLines all lines → is_below bound lines.object ≡ t →
+      IsFirstUnder all lines.offset t
+  lines_under all lines t h is short versions file =
+      sym is ∙ ap (is_below bound) (h.object short versions file) ∙ under_first versions
+
   -- a sorted file is cut between these offsets
   abbrev Between : List ℕ → ℕ → ℕ → Type 0
   Between all low high = length all < 2 ^ 62 → (versions : List VersionData) → OplFile all versions → IsSorted key_cmp versions →
@@ -405,7 +341,7 @@ module _ (bound : Object) where
   pub record Halves (all : List ℕ) (low high : ℕ) : Type 0 where
     pub within : high ≤ length all
     pub between : Between all low high
-    pub last : (low ≡ 0) ⊎ IsFirstUnder (Some all) bound (low - 1) true
+    pub last : (low ≡ 0) ⊎ IsFirstUnder all (low - 1) true
 
   -- the same, if the file's bytes are known
   abbrev pub Halving : Option (List ℕ) → ℕ → ℕ → Type 0
@@ -432,100 +368,84 @@ module _ (bound : Object) where
     },
   )
 
-  -- If the first version from `middle` on is below the bound, the cut is after `middle`.
-  pub halving_low : (bytes : Option (List ℕ)) (low middle high next : ℕ) → Halving bytes low high → middle < high → next ≡ middle + 1 →
-      IsFirstUnder bytes bound middle true → Halving bytes next high
-  halving_low None low middle high next h near is first = (omega (arith, near, is), tt)
-  halving_low (Some all) low middle high next h near is first = (
-    omega (arith, near, is),
-    record {
-      within = h.1.within;
-      last = let e : middle ≡ next - 1 = omega (arith, is) in
-          inr (subst (λ n. IsFirstUnder (Some all) bound n true) e first);
-      between = λ short versions file sorted.
-          let e : next ≡ suc middle = omega (arith, is) in (
-            rw e (low_step all versions file sorted middle (λ later lines. first short later lines)),
-            (h.1.between short versions file sorted).1,
-          );
-    },
-  )
+  -- If the first version from `middle` on is below the bound, the cut is after the start of the first line from there on.
+  pub halving_low : (bytes : Option (List ℕ)) (low middle high start next : ℕ) (lines : LinesFrom) → Halving bytes low high →
+      AreLinesOf bytes lines → lines.offset ≡ middle → is_below bound lines.object ≡ true → middle ≤ start → start < high →
+      (start ≡ middle) ⊎ (start ≤ lines.start) → next ≡ start + 1 → Halving bytes next high
+  halving_low None low middle high start next lines h are at below late near early is = (omega (arith, near, is), tt)
+  halving_low (Some all) low middle high start next lines h are at below late near early is =
+      let first : IsFirstUnder all middle true = subst (λ n. IsFirstUnder all n true) at (lines_under all lines true are below) in
+      let begins : lines.start ≡ line_start_from middle all = are.start ∙ ap (λ n. line_start_from n all) at in
+      let same : lines_from middle all ≡ lines_from start all =
+      ⊎_elim (λ e. ap (λ n. lines_from n all) (sym e))
+      (λ before. let one = one_start middle start all late (omega (arith, before, begins)) in
+      sym (start_lines middle all) ∙ ap (λ n. drop n all) (sym one) ∙ start_lines start all) early in
+      let here : IsFirstUnder all start true = λ short later lines. first short later (subst (λ (b : List ℕ). OplFile b later) (sym same) lines) in (
+        omega (arith, near, is),
+        record {
+          within = h.1.within;
+          last = let e : start ≡ next - 1 = omega (arith, is) in inr (subst (λ n. IsFirstUnder all n true) e here);
+          between = λ short versions file sorted.
+              let e : next ≡ suc start = omega (arith, is) in (
+                rw e (low_step all versions file sorted start (λ later lines. here short later lines)),
+                (h.1.between short versions file sorted).1,
+              );
+        },
+      )
 
   -- If the first version from `middle` on is not below the bound, the cut is at `middle` at the latest.
-  pub halving_high : (bytes : Option (List ℕ)) (low middle high : ℕ) → Halving bytes low high → low ≤ middle → middle < high →
-      IsFirstUnder bytes bound middle false → Halving bytes low middle
-  halving_high None low middle high h near early first = (omega (arith, near), tt)
-  halving_high (Some all) low middle high h near early first = (
-    omega (arith, near),
-    record {
-      within = let long = h.1.within in omega (arith, long, early);
-      last = h.1.last;
-      between = λ short versions file sorted. (
-        (h.1.between short versions file sorted).0,
-        high_step all versions file sorted middle (λ later lines. first short later lines),
-      );
-    },
-  )
+  pub halving_high : (bytes : Option (List ℕ)) (low middle high : ℕ) (lines : LinesFrom) → Halving bytes low high →
+      AreLinesOf bytes lines → lines.offset ≡ middle → is_below bound lines.object ≡ false → low ≤ middle → middle < high →
+      Halving bytes low lines.offset
+  halving_high None low middle high lines h are at below early near = (omega (arith, early, at), tt)
+  halving_high (Some all) low middle high lines h are at below early near =
+      let first : IsFirstUnder all lines.offset false = lines_under all lines false are below in (
+        omega (arith, early, at),
+        record {
+          within = are.within;
+          last = h.1.last;
+          between = λ short versions file sorted. (
+            (h.1.between short versions file sorted).0,
+            high_step all versions file sorted lines.offset (λ later lines. first short later lines),
+          );
+        },
+      )
 
-  -- When `low` reaches `high`, the first line from there on is the cut.
-  pub halved : (bytes : Option (List ℕ)) (low high start : ℕ) → Halving bytes low high → high ≤ low → IsLineStart bytes low start →
-      IsCutOf bytes bound start
-  halved None low high start h end begins = tt
-  halved (Some all) low high start h end begins = λ short versions file sorted.
+  -- When `low` reaches the lines that aren't below the bound, the first of them begins at the cut.
+  pub halved : (bytes : Option (List ℕ)) (low : ℕ) (high : LinesFrom) → Halving bytes low high.offset → high.offset ≤ low →
+      AreLinesOf bytes high → IsCutOf bytes bound high.start
+  halved None low high h end are = tt
+  halved (Some all) low high h end are = λ short versions file sorted.
       let both = h.1.between short versions file sorted in
-      let e : high ≡ low = omega (arith, h.0, end) in
-      let cut = cut_is all versions file sorted low start both.0 (rw e at both.1) (ap (λ n. drop n all) begins ∙ start_lines low all) in (
+      let e : high.offset ≡ low = omega (arith, h.0, end) in
+      let begins : high.start ≡ line_start_from low all = are.start ∙ ap (λ n. line_start_from n all) e in
+      let cut = cut_is all versions file sorted low high.start both.0 (subst (High all versions) e both.1)
+      (ap (λ n. drop n all) begins ∙ start_lines low all) in (
         cut.0,
         cut.1,
-        is_first all versions file sorted low start begins
+        is_first all versions file sorted low high.start begins
             (⊎_elim (λ none. inl none) (λ under_it. inr (λ later lines. sym (under_it short later lines))) h.1.last),
       )
 
-  -- a line begins at the cut, and the bytes from there on don't begin as an o5 file does
-  pub begins_of : (bytes : Option (List ℕ)) (low high start : ℕ) → Halving bytes low high → high ≤ low → IsLineStart bytes low start →
-      BeginsAs bytes start false → BeginsLinesOf bytes start
-  begins_of None low high start h end begins opl = tt
-  begins_of (Some all) low high start h end begins opl = record {
-    line =
-        let long = h.1.within in
-        subst (BeginsLine all) (sym begins) (start_begins low all (omega (arith, h.0, end, long)));
-    start = opl;
-  }
+-- a line begins at the start of lines, and the bytes from there on don't begin as an o5 file does
+pub begins_of : (bytes : Option (List ℕ)) (lines : LinesFrom) → AreLinesOf bytes lines → BeginsAs bytes lines.start false →
+    BeginsLinesOf bytes lines.start
+begins_of None lines are opl = tt
+begins_of (Some all) lines are opl = record {
+  line = subst (BeginsLine all) (sym are.start) (start_begins lines.offset all are.within);
+  start = opl;
+}
 
-  -- If lines begin as an o5 file does, the file is no OPL file.
-  pub o5_refusal : (Fails : Type 0) (bytes : Option (List ℕ)) (from start : ℕ) (fault : Fault) → IsLineStart bytes from start →
-      BeginsAs bytes start true → IsCutRefusal Fails bytes fault
-  o5_refusal Fails None from start fault lines o5 = tt
-  o5_refusal Fails (Some all) from start fault lines o5 = λ short. inr (λ versions file.
-      let parts = split_versions all (lines_from from all) (split_lines from all) versions file in
-      let opl : start_of (drop start all) ≡ InOpl =
-      ap start_of (ap (λ n. drop n all) lines ∙ start_lines from all) ∙ opl_starts (lines_from from all) parts.later parts.second in
-      let e : BeforeHeader ≡ InOpl = sym o5 ∙ opl in cc)
-
-  -- A search within the file that is refused refuses the cut.
-  pub search_refusal : (Fails : Type 0) (bytes : Option (List ℕ)) (low high offset : ℕ) (fault : Fault) → Halving bytes low high →
-      offset ≤ high → IsSearchRefusal Fails bytes offset fault → IsCutRefusal Fails bytes fault
-  search_refusal Fails None low high offset fault h near refused = tt
-  search_refusal Fails (Some all) low high offset fault h near refused = λ short.
-      ⊎_elim (λ device. ⊎_elim (λ failure. inl failure)
-      (λ (reason, long). absurd (let within = h.1.within in omega (arith, long, short, within, near))) device)
-      (λ none. inr none) (refused short)
-
-  -- The search for a line within the file that is refused refuses the cut.
-  pub line_refusal : (Fails : Type 0) (bytes : Option (List ℕ)) (low high offset : ℕ) (fault : Fault) → Halving bytes low high →
-      offset ≤ high → IsDeviceFault Fails bytes offset fault → IsCutRefusal Fails bytes fault
-  line_refusal Fails None low high offset fault h near device = tt
-  line_refusal Fails (Some all) low high offset fault h near device =
-      search_refusal Fails (Some all) low high offset fault h near (λ short. inl device)
-
--- the first of some versions determines whether they begin below the bound
-pub first_under : (bound : Object) (v : VersionData) (versions : List VersionData) → IsFirstOf (Some v) versions →
-    is_under (Some bound) v ≡ first_is_under bound versions
-first_under bound v [] is = cc
-first_under bound v (w ∷ versions) is = let same : v ≡ w = cc in ap (is_under (Some bound)) same
-
-pub none_under : (bound : Object) (versions : List VersionData) → IsFirstOf None versions → false ≡ first_is_under bound versions
-none_under bound [] is = refl
-none_under bound (w ∷ versions) is = cc
+-- If lines begin as an o5 file does, the file is no OPL file.
+pub o5_refusal : (Fails : Type 0) (bytes : Option (List ℕ)) (lines : LinesFrom) (fault : Fault) → AreLinesOf bytes lines →
+    BeginsAs bytes lines.start true → IsCutRefusal Fails bytes fault
+o5_refusal Fails None lines fault are o5 = tt
+o5_refusal Fails (Some all) lines fault are o5 = λ short. inr (λ versions file.
+    let from = lines.offset in
+    let parts = split_versions all (lines_from from all) (split_lines from all) versions file in
+    let opl : start_of (drop lines.start all) ≡ InOpl =
+    ap start_of (ap (λ n. drop n all) are.start ∙ start_lines from all) ∙ opl_starts (lines_from from all) parts.later parts.second in
+    let e : BeforeHeader ≡ InOpl = sym o5 ∙ opl in cc)
 
 -- ---- refusals
 -- a failure to read refuses a cut
@@ -533,15 +453,6 @@ pub failure_refuses : (Fails : Type 0) (bytes : Option (List ℕ)) (fault : Faul
     IsCutRefusal Fails bytes fault
 failure_refuses Fails None fault h = tt
 failure_refuses Fails (Some all) fault h = λ short. inl h
-
--- if the lines from an offset on spell no versions, the file is no OPL file
-pub lines_refusal : (Fails : Type 0) (bytes : Option (List ℕ)) (offset : ℕ) (fault : Fault) → IsFirstFrom Fails bytes offset (Err fault) →
-    IsSearchRefusal Fails bytes offset fault
-lines_refusal Fails None offset fault h = tt
-lines_refusal Fails (Some all) offset fault h = λ short. ⊎_elim inl
-    (λ none. inr (λ versions file.
-    let parts = split_versions all (lines_from offset all) (split_lines offset all) versions file in
-    none parts.later parts.second)) (h short)
 
 -- ---- the first byte
 -- a file that ends at an offset doesn't begin there as an o5 file does

@@ -53,7 +53,7 @@ use Rattle.osm_mirror.specs.SliceRun.{given_slice, IsPartRead, HasSlice, GivesSl
 use Rattle.osm_mirror.proofs.FilesRefusalLaws.{has_number}
 use Rattle.osm_mirror.specs.declared.files_run.Order.TheVariants.{Sorted}
 use Rattle.osm_mirror.proofs.ShardPartLaws.{part_holds, part_rises, within_itself}
-use Rattle.osm_mirror.proofs.ProbeLaws.{opl_is, opl_starts, opl_file}
+use Rattle.osm_mirror.proofs.ProbeLaws.{opl_is, opl_starts, opl_file, probe_refuses}
 
 -- ---- the part of a file
 pub lines_part : (known : Option (List ℕ)) (span : Span) (size_is start end : ℕ) → BeginsAs known 0 false →
@@ -62,9 +62,17 @@ pub lines_part : (known : Option (List ℕ)) (span : Span) (size_is start end : 
 lines_part None span size_is start end h is begins ends up = tt
 lines_part (Some all) span size_is start end h is begins ends up = λ short. record {
   size = sym is;
-  opl = λ e. (refl, (start, end, refl, record { begins = begins short; ends = ends short; ascends = up }));
-  o5 = λ e. absurd (let no : true ≡ false = sym (opl_is all false h) ∙ e in cc);
+  read = inr (record {
+    opl = opl_is all false h;
+    outside = refl;
+    run = (start, end, refl, record { begins = begins short; ends = ends short; ascends = up });
+  });
 }
+
+pub whole_part : (known : Option (List ℕ)) (span : Span) (size_is : ℕ) (run : SortedRun) → IfSome known (λ all. size_is ≡ length all) →
+    run ≡ whole_run → IsPartOf span known (record { run = run; size = size_is; outside = Dropped })
+whole_part None span size_is run is whole = tt
+whole_part (Some all) span size_is run is whole = λ short. record { size = sym is; read = inl (refl, whole) }
 
 -- a cut at which a line begins is where the part of a file begins or ends
 pub cut_begins : (known : Option (List ℕ)) (bound : Object) (start : ℕ) → IsCutOf known bound start → BeginsLinesOf known start →
@@ -87,12 +95,7 @@ both_ok P Q R f (Err e) p q = tt
 pub cut_refuses : (Fails : Type 0) (known : Option (List ℕ)) (fault : Fault) → BeginsAs known 0 false → IsCutRefusal Fails known fault →
     IsFileRefusal Fails known fault
 cut_refuses Fails None fault opl refused = inr tt
-cut_refuses Fails (Some all) fault opl refused =
-    ⊎_elim
-    (λ short. ⊎_elim (λ failure. inl failure)
-    (λ none. inr (λ held h. none h.versions (opl_file all h.versions (opl_is all false opl) h.file))) (refused short))
-    (λ long. inr (λ held h. (let short = h.short in absurd (omega (arith, short, long)))))
-    (cases_lt (length all) (2 ^ 62))
+cut_refuses Fails (Some all) fault opl refused = probe_refuses Fails (Some all) (length all) fault (opl_is all false opl, refl) refused
 
 -- a file whose part ends before it begins isn't sorted
 pub part_falls : (Fails : Type 0) (known : Option (List ℕ)) (span : Span) (start end : ℕ) (fault : Fault) → is_ascending span ≡ true →
@@ -227,7 +230,7 @@ lines_bytes all start end = append-nil (take (end - start) (drop start all))
 as_held : (bytes : List ℕ) (set : VersionSet) → HoldsSorted bytes set → Holds bytes set
 as_held bytes set h = record { short = h.short; versions = h.versions; file = h.file; members = h.members }
 
--- what the part of a sorted file holds: the slice, or all of an o5 file
+-- what the part of a sorted file holds: the slice, or all of the file
 module _ (span : Span) (all : List ℕ) (part : FilePart) (set : VersionSet) where
   abbrev PartSet : Outside → VersionSet → Type 0
   PartSet Refused held = held ≡ slice_of span.from span.to set
@@ -239,20 +242,19 @@ module _ (span : Span) (all : List ℕ) (part : FilePart) (set : VersionSet) whe
     is : PartSet part.outside held
 
   holds_part : IsFilePart span all part → HoldsSorted all set → PartHolds
-  holds_part is h = elim (is_opl all) as (λ t. is_opl all ≡ t → PartHolds) [
-    | true ↦ λ e. (let o = is.opl e in let p = o.1 in record {
-      held = slice_of span.from span.to set;
-      holds = subst (λ b. HoldsSorted b (slice_of span.from span.to set))
-          (sym (ap (λ (r : SortedRun). run_bytes r all) p.2 ∙ lines_bytes all p.0 p.1))
-          (part_holds span all p.0 p.1 set (opl_starts all e) h p.3);
-      is = subst (λ (x : Outside). PartSet x (slice_of span.from span.to set)) (sym o.0) refl;
-    })
-    | false ↦ λ e. (let o = is.o5 e in record {
-      held = set;
-      holds = subst (λ b. HoldsSorted b set) (sym (ap (λ (r : SortedRun). run_bytes r all) o.1 ∙ whole_bytes all h.short)) h;
-      is = subst (λ (x : Outside). PartSet x set) (sym o.0) refl;
-    })
-  ] refl
+  holds_part is h =
+      ⊎_elim (λ (outside, run). record {
+        held = set;
+        holds = subst (λ b. HoldsSorted b set) (sym (ap (λ (r : SortedRun). run_bytes r all) run ∙ whole_bytes all h.short)) h;
+        is = subst (λ (x : Outside). PartSet x set) (sym outside) refl;
+      })
+      (λ lines. let p = lines.run in record {
+        held = slice_of span.from span.to set;
+        holds = subst (λ b. HoldsSorted b (slice_of span.from span.to set))
+            (sym (ap (λ (r : SortedRun). run_bytes r all) p.2 ∙ lines_bytes all p.0 p.1))
+            (part_holds span all p.0 p.1 set (opl_starts all lines.opl) h p.3);
+        is = subst (λ (x : Outside). PartSet x (slice_of span.from span.to set)) (sym lines.outside) refl;
+      }) is.read
 
 -- ---- what the input of a part gives
 module _ (span : Span) (Fails : Type 0) (all : List ℕ) (part : FilePart) (part_is : length all < 2 ^ 62 → IsFilePart span all part)

@@ -17,6 +17,8 @@ mod FilesGoodLaws
 mod WayLaws
 mod TurnLaws
 mod SlicedFileLaws
+mod SplitLineLaws
+mod LinesFromLaws
 mod CutLaws
 mod ShardLaws
 mod BoundLaws

@@ -1,5 +1,5 @@
 -- The probes of files: what they find, and at which offsets.
-use Rattle.std.proofs.Common.{◌≡◌, ℕ, zero, suc, ◌+◌, ◌-◌, ◌*◌, ◌/◌, ◌≤◌, ◌<◌, ◌==◌, ◌^◌, min, Bool, true, false, not, cond, List, [], ◌∷◌}
+use Rattle.std.proofs.Common.{◌≡◌, ℕ, zero, suc, ◌+◌, ◌-◌, ◌*◌, ◌/◌, ◌≤◌, ◌<◌, ◌==◌, ◌^◌, ◌⊎◌, min, Bool, true, false, not, cond, List, [], ◌∷◌}
 use Rattle.std.proofs.Common.{◌++◌, length, refl, sym, ap, ◌∙◌, subst, arith, Option, Some, None, Ok, IfSome, inl, inr, ⊎_elim}
 use Rattle.std.proofs.Common.{take, drop, take-append-drop, get_or}
 use Rattle.std.proofs.Common.{append_assoc, append-nil}
@@ -14,7 +14,7 @@ use Rattle.osm_model.specs.Pairwise.{Pairwise}
 use Rattle.osm_model.specs.VersionSet.{VersionSet}
 use Rattle.osm_files.specs.declared.fault.Fault.{Fault}
 use Rattle.osm_files.specs.Held.{HoldsSorted, IsFileOf}
-use Rattle.osm_files.specs.Lines.{lines_from, IsFirstOf, IsFirstFrom}
+use Rattle.osm_files.specs.Lines.{lines_from}
 use Rattle.osm_files.specs.O5.{reset_byte}
 use Rattle.osm_files.specs.Opl.{OplFile}
 use Rattle.osm_files.specs.Units.{InOpl, start_of}
@@ -25,11 +25,13 @@ use Rattle.osm_mirror.specs.declared.bounds.Found.{Found}
 use Rattle.osm_mirror.specs.Bounds.{is_opl, opl_size, object_of_first, first_object, found_once, found_at, found_by, probe_count}
 use Rattle.osm_mirror.specs.Bounds.{found_in, total_weight}
 use Rattle.osm_mirror.specs.Bounds.{found_in_all}
-use Rattle.osm_mirror.specs.CutOffset.{start_if, IsSearchRefusal}
-use Rattle.osm_mirror.specs.Probes.{HaveBytes, IsTotal, FindsIn, FindsInAll}
+use Rattle.osm_mirror.specs.declared.lines_from.LinesFrom.{LinesFrom}
+use Rattle.osm_mirror.specs.CutOffset.{start_if, IsCutRefusal}
+use Rattle.osm_mirror.specs.LinesFrom.{AreLines, AreLinesOf}
+use Rattle.osm_mirror.specs.Probes.{HaveBytes, IsTotal, FindsBy, FindsIn, FindsInAll}
 use Rattle.osm_mirror.specs.ShardPart.{size_if_opl, IsOplSize}
 use Rattle.osm_mirror.specs.ShardRefusal.{IsFileRefusal}
-use Rattle.osm_mirror.proofs.CutLaws.{split_lines, split_versions}
+use Rattle.osm_mirror.proofs.SplitLineLaws.{split_lines, split_versions}
 use Rattle.osm_mirror.proofs.FilesRunLaws.{cut, known_given, take_more}
 
 -- ---- the first byte of a file
@@ -74,56 +76,55 @@ opl_sized (Some all) size h =
       | false ↦ λ e k. absurd (let no : Some size ≡ None = k in cc)
     ] refl h
 
--- a search at an offset of an OPL file that is refused refuses the file
-pub probe_refuses : (Fails : Type 0) (known : Option (List ℕ)) (size offset : ℕ) (fault : Fault) →
-    IfSome known (λ all. (is_opl all ≡ true) × (size ≡ length all)) → offset < size → IsSearchRefusal Fails known offset fault →
-    IsFileRefusal Fails known fault
-probe_refuses Fails None size offset fault is near refused = inr tt
-probe_refuses Fails (Some all) size offset fault (opl, is) near refused =
+-- a search in an OPL file that is refused refuses the file
+pub probe_refuses : (Fails : Type 0) (known : Option (List ℕ)) (size : ℕ) (fault : Fault) →
+    IfSome known (λ all. (is_opl all ≡ true) × (size ≡ length all)) → IsCutRefusal Fails known fault → IsFileRefusal Fails known fault
+probe_refuses Fails None size fault is refused = inr tt
+probe_refuses Fails (Some all) size fault (opl, is) refused =
     ⊎_elim
-    (λ short. ⊎_elim
-    (λ device. ⊎_elim (λ failure. inl failure) (λ (reason, long). absurd (omega (arith, long, short, is, near))) device)
-    (λ none. inr (λ held h. none h.versions (opl_file all h.versions opl h.file)))
-    (refused short))
+    (λ short. ⊎_elim (λ failure. inl failure)
+    (λ none. inr (λ held h. none h.versions (opl_file all h.versions opl h.file))) (refused short))
     (λ long. inr (λ held h. (let short = h.short in absurd (omega (arith, short, long)))))
     (cases_lt (length all) (2 ^ 62))
 
 -- ---- one probe
-first_of : (versions : List VersionData) (first : Option VersionData) → IsFirstOf first versions →
-    option_map object_of first ≡ object_of_first versions
-first_of [] first h = ap (option_map object_of) h
-first_of (v ∷ versions) first h = ap (option_map object_of) h
-
-found_first : (all : List ℕ) (versions : List VersionData) → OplFile all versions → (offset : ℕ) (first : Option VersionData) →
-    ((later : List VersionData) → OplFile (lines_from offset all) later → IsFirstOf first later) →
-    option_map object_of first ≡ first_object offset all
-found_first all versions file offset first h =
-    let parts = split_versions all (lines_from offset all) (split_lines offset all) versions file in
-    first_of parts.later first (h parts.later parts.second)
-    ∙ ap object_of_first (sym (lines_read (lines_from offset all) parts.later parts.second))
+found_object : (all : List ℕ) (lines : LinesFrom) → AreLines all lines → length all < 2 ^ 62 → (versions : List VersionData) →
+    OplFile all versions → lines.object ≡ first_object lines.offset all
+found_object all lines h short versions file =
+    let from = lines_from lines.offset all in
+    let parts = split_versions all from (split_lines lines.offset all) versions file in
+    h.object short parts.later parts.second ∙ ap object_of_first (sym (lines_read from parts.later parts.second))
 
 -- ---- all probes of a file
--- the first probes found these objects, and they were appended
-abbrev pub FindsFirst : Option (List ℕ) → ℕ → ℕ → ℕ → List Found → List Found → Type 0
-FindsFirst known size step number before after = IfSome known (λ all. size ≡ length all → length all < 2 ^ 62
-    → (versions : List VersionData) → OplFile all versions → after ≡ before ++ found_by step all number)
+-- the objects of the probes from a number on were appended: with those of the probes before it, they are those of all probes
+abbrev pub FindsFrom : Option (List ℕ) → ℕ → ℕ → ℕ → List Found → List Found → Type 0
+FindsFrom known size step number before after = IfSome known (λ all. size ≡ length all → length all < 2 ^ 62
+    → (versions : List VersionData) → OplFile all versions
+    → after ++ found_by step all number ≡ before ++ found_by step all (probe_count step size))
 
-pub finds_none : (known : Option (List ℕ)) (size step : ℕ) (found : List Found) → FindsFirst known size step 0 found found
-finds_none None size step found = tt
-finds_none (Some all) size step found = λ is short versions file. sym (append-nil found)
+pub finds_none : (known : Option (List ℕ)) (size step number : ℕ) (found : List Found) → number ≡ probe_count step size →
+    FindsFrom known size step number found found
+finds_none None size step number found is = tt
+finds_none (Some all) size step number found is = λ same short versions file. ap (λ n. found ++ found_by step all n) is
 
-pub finds_more : (Fails : Type 0) (known : Option (List ℕ)) (size step number next offset : ℕ) (before found after : List Found) →
-    FindsFirst known size step number before found → next ≡ number + 1 → offset ≡ number * step → (first : Option VersionData) →
-    IsFirstFrom Fails known offset (Ok first) → after ≡ found ++ found_once (min step (size - offset)) (option_map object_of first) →
-    FindsFirst known size step next before after
-finds_more Fails None size step number next offset before found after h one at first probe is = tt
-finds_more Fails (Some all) size step number next offset before found after h one at first probe is = λ same short versions file.
-    let object = found_first all versions file offset first (probe short) in
-    let here : found_once (min step (size - offset)) (option_map object_of first) ≡ found_at step all (number * step) =
-    (λ i. found_once (min step (same i - offset)) (object i)) ∙ ap (found_at step all) at in
-    let e : next ≡ suc number = omega (arith, one) in
-    is ∙ (λ i. h same short versions file i ++ here i) ∙ append_assoc before (found_by step all number) (found_at step all (number * step))
-    ∙ ap (λ n. before ++ found_by step all n) (sym e)
+pub finds_more : (known : Option (List ℕ)) (size step number next : ℕ) (lines : LinesFrom) (before found after : List Found) →
+    FindsFrom known size step number before found → number ≡ next + 1 → lines.offset ≡ next * step → AreLinesOf known lines →
+    after ≡ found ++ found_once (min step (size - lines.offset)) lines.object → FindsFrom known size step next before after
+finds_more None size step number next lines before found after h one at are is = tt
+finds_more (Some all) size step number next lines before found after h one at are is = λ same short versions file.
+    let object = found_object all lines are short versions file in
+    let here : found_once (min step (size - lines.offset)) lines.object ≡ found_at step all (next * step) =
+    (λ i. found_once (min step (same i - lines.offset)) (object i)) ∙ ap (found_at step all) at in
+    let e : number ≡ suc next = omega (arith, one) in
+    ap (λ xs. xs ++ found_by step all next) (is ∙ ap (λ xs. found ++ xs) here)
+    ∙ append_assoc found (found_at step all (next * step)) (found_by step all next)
+    ∙ ap (λ n. found ++ found_by step all n) (sym e) ∙ h same short versions file
+
+pub finds_all : (known : Option (List ℕ)) (size step number : ℕ) (before after : List Found) →
+    FindsFrom known size step number before after → number ≡ 0 → FindsBy known size step before after
+finds_all None size step number before after h none = tt
+finds_all (Some all) size step number before after h none = λ same short versions file.
+    sym (append-nil after) ∙ ap (λ n. after ++ found_by step all n) (sym none) ∙ h same short versions file
 
 -- the probe with a number is within the file
 pub within : (number step size : ℕ) → 0 < step → number < probe_count step size → number * step < size
@@ -138,6 +139,31 @@ within number step (suc size) some low =
     let whole = div-add-mod' size step in
     omega (arith, part, whole)
 
+-- the probe before the next one, if there is one, isn't after these lines
+abbrev pub HasRoom : ℕ → ℕ → ℕ → Type 0
+HasRoom step number offset = (number ≡ 0) ⊎ ((number - 1) * step ≤ offset)
+
+pub room_at_end : (step size number : ℕ) → 0 < step → number ≡ probe_count step size → HasRoom step number size
+room_at_end step size zero some is = inl refl
+room_at_end step size (suc n) some is =
+    let e : suc n - 1 ≡ n = omega arith in
+    let near = within n step size some (omega (arith, is)) in
+    inr (subst (λ m. m * step ≤ size) (sym e) (omega (arith, near)))
+
+pub in_room : (step number offset probe : ℕ) → HasRoom step number offset → 0 < number → probe ≡ (number - 1) * step → probe ≤ offset
+in_room step number offset probe room some is = ⊎_elim (λ none. absurd (omega (arith, none, some))) (λ low. omega (arith, low, is)) room
+
+pub room_before : (step number offset : ℕ) → offset ≡ number * step → HasRoom step number offset
+room_before step zero offset is = inl refl
+room_before step (suc n) offset is =
+    let less = mul-le (suc n - 1) step (suc n) step (omega arith) (omega arith) in inr (omega (arith, less, is))
+
+-- the size of an OPL file as an offset
+pub opl_end : (known : Option (List ℕ)) (size offset : ℕ) → IfSome known (λ all. (is_opl all ≡ true) × (size ≡ length all)) →
+    offset ≡ size → IfSome known (λ all. offset ≡ length all)
+opl_end None size offset h is = tt
+opl_end (Some all) size offset h is = is ∙ h.1
+
 -- ---- the weight of what is found
 once_weight : (weight : ℕ) (object : Option Object) → total_weight (found_once weight object) ≤ weight
 once_weight weight None = omega arith
@@ -148,7 +174,7 @@ by_weight : (step : ℕ) (bytes : List ℕ) (number : ℕ) →
 by_weight step bytes zero = (omega arith, omega arith)
 by_weight step bytes (suc number) =
     let so_far = by_weight step bytes number in
-    let both = sum_by-append (λ f. f.weight) (found_by step bytes number) (found_at step bytes (number * step)) in
+    let both = sum_by-append (λ f. f.weight) (found_at step bytes (number * step)) (found_by step bytes number) in
     let one = once_weight (min step (length bytes - number * step)) (first_object (number * step) bytes) in
     let next = row_fits number step (suc number) step (omega arith) (omega arith) in
     let early = so_far.0 in

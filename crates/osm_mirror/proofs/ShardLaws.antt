@@ -20,7 +20,7 @@ use Rattle.osm_mirror.specs.CutOffset.{BeginsLines}
 use Rattle.osm_mirror.specs.Shards.{parts_from, AreCutsFrom, PartsHoldTheFile, first_set, other_sets, by_span}
 use Rattle.osm_mirror.specs.Shards.{ShardsWriteTheRun}
 use Rattle.osm_mirror.specs.Slices.{AreSlicesWithin}
-use Rattle.osm_mirror.proofs.CutLaws.{split_lines}
+use Rattle.osm_mirror.proofs.SplitLineLaws.{part_ends, part_whole}
 use Rattle.osm_mirror.proofs.SlicedFileLaws.{SpelledFrom, no_spans, spelled_more, spelled_last, slices_of_all, slices_write_the_run}
 use Rattle.osm_mirror.proofs.SortedRunLaws.{after_line}
 
@@ -52,17 +52,6 @@ shards_write_the_run selection bounds sets parts up h =
     slices_write_the_run selection bounds sets (by_span (spans bounds) parts) up (runs_are sets (spans bounds) parts h)
 
 -- ---- parts of one file
-abbrev nothing : List ℕ
-nothing = []
-
-take_none : (n : ℕ) → take n [] ≡ nothing
-take_none zero = refl
-take_none (suc n) = refl
-
-drop_nothing : (n : ℕ) → drop n nothing ≡ []
-drop_nothing zero = refl
-drop_nothing (suc n) = refl
-
 nothing_spelled : (versions : List VersionData) → IsFile [] versions → versions ≡ []
 nothing_spelled versions file = one_list [] versions [] file tt
 
@@ -95,46 +84,6 @@ joined bytes file rest earlier later whole opl more_opl ends one other =
       whole = whole;
     }))) ends
 
-pub drop_take : (start offset : ℕ) (bytes : List ℕ) → start ≤ offset
-    → take (offset - start) (drop start bytes) ≡ drop start (take offset bytes)
-drop_take zero offset bytes h = let e : offset - 0 ≡ offset = omega arith in rw e refl
-drop_take (suc start) zero bytes h = absurd (omega (arith, h))
-drop_take (suc start) (suc offset) [] h = take_none (suc offset - suc start)
-drop_take (suc start) (suc offset) (b ∷ bytes) h =
-    let e : suc offset - suc start ≡ offset - start = omega arith in rw e (drop_take start offset bytes (omega (arith, h)))
-
-drop_last : (start : ℕ) (text : List ℕ) (last : ℕ) → (drop start (text ++ last ∷ []) ≡ [])
-    ⊎ ((more : List ℕ) × (drop start (text ++ last ∷ []) ≡ more ++ last ∷ []))
-drop_last zero text last = inr (text, refl)
-drop_last (suc start) [] last = inl (drop_nothing start)
-drop_last (suc start) (b ∷ text) last = drop_last start text last
-
-pub part_ends : (bytes : List ℕ) (start offset : ℕ) → start ≤ offset → BeginsLines bytes offset →
-    (take (offset - start) (drop start bytes) ≡ []) ⊎ (drop offset bytes ≡ []) ⊎ Ended (take (offset - start) (drop start bytes))
-part_ends bytes start offset up begins =
-    let s = split_lines offset bytes in
-    let rest : drop offset bytes ≡ lines_from offset bytes = ap (λ n. drop n bytes) (sym begins.line) ∙ start_lines offset bytes in
-    let front : take offset bytes ≡ s.front =
-    append_cancel_right (take offset bytes) s.front (drop offset bytes)
-    (take-append-drop offset bytes ∙ s.whole ∙ ap (λ r. s.front ++ r) (sym rest)) in
-    let part : take (offset - start) (drop start bytes) ≡ drop start s.front = drop_take start offset bytes up ∙ ap (drop start) front in
-    ⊎_elim (λ none. inl (part ∙ ap (drop start) none ∙ drop_nothing start))
-    (⊎_elim (λ none. inr (inl (rest ∙ none)))
-    (λ ended. ⊎_elim (λ none. inl (part ∙ ap (drop start) ended.is ∙ none))
-    (λ (more, is). inr (inr (record {
-      text = more;
-      last = ended.last;
-      ends = ended.ends;
-      is = part ∙ ap (drop start) ended.is ∙ is;
-    }))) (drop_last start ended.text ended.last))) s.ends
-
-part_whole : (bytes : List ℕ) (start offset : ℕ) → start ≤ offset →
-    drop start bytes ≡ take (offset - start) (drop start bytes) ++ drop offset bytes
-part_whole bytes start offset up =
-    let e : start + (offset - start) ≡ offset = omega (arith, up) in
-    sym (take-append-drop (offset - start) (drop start bytes))
-    ∙ ap (λ r. take (offset - start) (drop start bytes) ++ r) (drop-drop (offset - start) start bytes ∙ ap (λ n. drop n bytes) e)
-
 parts_spell : (bytes : List ℕ) (from : Option Object) (bounds : List Object) (start : ℕ) (offsets : List ℕ) (held : List VersionSet) →
     Rise from bounds → AreCutsFrom bytes start offsets → start_of (drop start bytes) ≡ InOpl →
     Pairwise HoldsSorted (parts_from start offsets bytes) held → Pairwise IsWithin (spans_from from bounds) held →
@@ -152,7 +101,7 @@ parts_spell bytes from (bound ∷ bounds) start (offset ∷ offsets) (s ∷ held
     let more = parts_spell bytes (Some bound) bounds offset offsets held up.1 cuts begins.start holds within in
     spelled_more from bound (drop start bytes) (drop offset bytes) (take (offset - start) (drop start bytes)) s held up.0 h w more
     (joined (drop start bytes) (take (offset - start) (drop start bytes)) (drop offset bytes) h.versions (merged.versions_of more.given)
-    (part_whole bytes start offset ascends) opl begins.start (part_ends bytes start offset ascends begins) h.file more.file)
+    (part_whole bytes start offset ascends) opl begins.start (part_ends bytes start offset ascends begins.line) h.file more.file)
 
 -- The parts of a file at its cut offsets hold the slices of its set.
 pub parts_hold_the_file : PartsHoldTheFile

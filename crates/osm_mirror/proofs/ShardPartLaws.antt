@@ -31,8 +31,8 @@ use Rattle.osm_merge.specs.Slice.{slice_of, is_ascending, is_ascending_between, 
 use Rattle.osm_merge.proofs.SliceLaws.{equal, kept_in}
 use Rattle.osm_mirror.specs.CutOffset.{IsUnderBefore}
 use Rattle.osm_mirror.specs.ShardPart.{BeginsAt, EndsAt, IsPartWithin}
-use Rattle.osm_mirror.proofs.CutLaws.{SplitLines, split_versions, cuts_rise}
-use Rattle.osm_mirror.proofs.ShardLaws.{part_ends}
+use Rattle.osm_mirror.proofs.CutLaws.{cuts_rise}
+use Rattle.osm_mirror.proofs.SplitLineLaws.{SplitLines, split_versions, part_ends, part_whole}
 
 -- ---- booleans
 and_true : (b : Bool) → b && true ≡ b
@@ -182,12 +182,6 @@ module _ (all : List ℕ) (held : VersionSet) (h : HoldsSorted all held) (opl : 
         (take (end - start) (drop start all) ≡ []) ⊎ (drop end all ≡ []) ⊎ Ended (take (end - start) (drop start all))
 
   -- a file in two parts
-  split_at : (start end : ℕ) → start ≤ end → take (end - start) (drop start all) ++ drop end all ≡ drop start all
-  split_at start end up =
-      let at : start + (end - start) ≡ end = omega (arith, up) in
-      ap (λ bs. take (end - start) (drop start all) ++ bs) (ap (λ n. drop n all) (sym at) ∙ sym (drop-drop (end - start) start all))
-      ∙ take-append-drop (end - start) (drop start all)
-
   to_at : (to : Option Object) (end : ℕ) → EndsAt all to end → To to end
   to_at None end is =
       let none : drop end all ≡ [] = nil_from_length (drop end all) (omega (arith, is, length-drop end all)) in
@@ -200,10 +194,10 @@ module _ (all : List ℕ) (held : VersionSet) (h : HoldsSorted all held) (opl : 
   to_at (Some bound) end at =
       let cut = at.0 h.versions lines h.sorted in
       let ends : (start : ℕ) → start ≤ end → (take (end - start) (drop start all) ≡ []) ⊎ (drop end all ≡ [])
-      ⊎ Ended (take (end - start) (drop start all)) = λ start up. part_ends all start end up at.1 in
+      ⊎ Ended (take (end - start) (drop start all)) = λ start up. part_ends all start end up at.1.line in
       let s : SplitLines all (drop end all) = record {
         front = take (end - 0) (drop 0 all);
-        whole = sym (split_at 0 end (omega arith));
+        whole = part_whole all 0 end (omega arith);
         ends = ends 0 (omega arith);
       } in
       let v = split_versions all (drop end all) s h.versions lines in
@@ -219,7 +213,7 @@ module _ (all : List ℕ) (held : VersionSet) (h : HoldsSorted all held) (opl : 
   middle from to start end up f t =
       let part : List ℕ = take (end - start) (drop start all) in
       let s : SplitLines (drop start all) (drop end all) =
-      record { front = part; whole = sym (split_at start end up); ends = t.ends start up } in
+      record { front = part; whole = part_whole all start end up; ends = t.ends start up } in
       let v = split_versions (drop start all) (drop end all) s (filter (reaches from) h.versions) f.rest in
       let last : v.later ≡ t.later = one_opl (drop end all) v.later t.later v.second t.rest in
       let reach : filter (reaches from) v.later ≡ v.later = passing (reaches from) v.later

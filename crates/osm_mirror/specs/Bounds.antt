@@ -46,11 +46,11 @@ found_once weight (Some object) = record { object = object; weight = weight } �
 abbrev pub found_at : ℕ → List ℕ → ℕ → List Found
 found_at step bytes offset = found_once (min step (length bytes - offset)) (first_object offset bytes)
 
--- the objects that the first probes find, at 0, the step, twice the step and so on; the last argument is the number of
--- these probes
+-- The objects that the first probes find, at 0, the step, twice the step and so on. The last argument is the number of
+-- these probes. The object of the last one comes first.
 abbrev pub found_by : ℕ → List ℕ → ℕ → List Found
 found_by step bytes zero = []
-found_by step bytes (suc number) = found_by step bytes number ++ found_at step bytes (number * step)
+found_by step bytes (suc number) = found_at step bytes (number * step) ++ found_by step bytes number
 
 -- the number of multiples of the step that are below a size
 abbrev pub probe_count : ℕ → ℕ → ℕ

@@ -8,7 +8,7 @@ use Rattle.osm_model.specs.Data.{VersionData}
 use Rattle.osm_model.specs.Order.{key_cmp}
 use Rattle.osm_files.specs.declared.fault.Fault.{Fault}
 use Rattle.osm_files.specs.FileRuns.{IsReadFailure}
-use Rattle.osm_files.specs.Lines.{lines_from, BeginsLine, IsDeviceFault}
+use Rattle.osm_files.specs.Lines.{BeginsLine}
 use Rattle.osm_files.specs.Opl.{OplFile}
 use Rattle.osm_files.specs.Units.{FileStateData, InOpl, BeforeHeader, start_of}
 use Rattle.osm_merge.specs.declared.object.Object.{Object}
@@ -49,11 +49,6 @@ abbrev pub IsCutRefusal : Type 0 → Option (List ℕ) → Fault → Type 0
 IsCutRefusal Fails bytes fault = IfSome bytes (λ all. length all < 2 ^ 62 →
     IsReadFailure Fails fault ⊎ ((versions : List VersionData) → OplFile all versions → ⊥))
 
--- the same for a search from an offset on, which may be too great
-abbrev pub IsSearchRefusal : Type 0 → Option (List ℕ) → ℕ → Fault → Type 0
-IsSearchRefusal Fails bytes offset fault = IfSome bytes (λ all. length all < 2 ^ 62 →
-    IsDeviceFault Fails (Some all) offset fault ⊎ ((versions : List VersionData) → OplFile all versions → ⊥))
-
 -- the state at the start of bytes that begin as an o5 file does, or of others
 abbrev pub start_if : Bool → FileStateData
 start_if is_o5 = if is_o5 then BeforeHeader else InOpl
@@ -65,8 +60,3 @@ BeginsAs bytes offset is_o5 = IfSome bytes (λ all. start_of (drop offset all) �
 -- lines of OPL begin at the offset, if the file's bytes are known
 abbrev pub BeginsLinesOf : Option (List ℕ) → ℕ → Type 0
 BeginsLinesOf bytes offset = IfSome bytes (λ all. BeginsLines all offset)
-
--- whether the object of the first version in the lines from an offset on is below the bound
-abbrev pub IsFirstUnder : Option (List ℕ) → Object → ℕ → Bool → Type 0
-IsFirstUnder bytes bound offset is_below = IfSome bytes (λ all. length all < 2 ^ 62 → (versions : List VersionData) →
-    OplFile (lines_from offset all) versions → is_below ≡ first_is_under bound versions)

@@ -25,6 +25,7 @@ pub mod FilesRun
 pub mod Request
 pub mod FilesRefusal
 pub mod Bounds
+pub mod LinesFrom
 pub mod Probes
 pub mod ShardSpan
 pub mod ShardPart

@@ -1,5 +1,5 @@
 -- The part of a file that a shard reads, and what it holds: an own rule of this project.
-use Rattle.std.specs.Prelude.{◌≡◌, ℕ, ◌-◌, ◌<◌, ◌≤◌, ◌^◌, true, false, List, [], length, Option, Some, None, IfSome}
+use Rattle.std.specs.Prelude.{◌≡◌, ◌⊎◌, ℕ, ◌-◌, ◌<◌, ◌≤◌, ◌^◌, true, false, List, [], length, Option, Some, None, IfSome}
 use Rattle.std.specs.Prelude.{if◌then◌else◌}
 use Rattle.osm_model.specs.Pairwise.{Pairwise}
 use Rattle.osm_files.specs.declared.sorted_run.SortedRun.{SortedRun}
@@ -50,12 +50,20 @@ pub record IsPartWithin (span : Span) (all : List ℕ) (start end : ℕ) : Type 
 abbrev pub lines_between : ℕ → ℕ → SortedRun
 lines_between start end = record { start = start; size = end - start; lacks_header = false; lacks_end = false }
 
--- the part of a file that is read for a span: the lines within it of an OPL file, and all of an o5 file
+-- all of a file is read, and versions outside of the span are dropped
+abbrev pub IsWhole : FilePart → Type 0
+IsWhole part = (part.outside ≡ Dropped) × (part.run ≡ whole_run)
+
+-- the lines within a span of an OPL file are read, and versions outside of the span are refused
+pub record IsLinesWithin (span : Span) (all : List ℕ) (part : FilePart) : Type 0 where
+  pub opl : is_opl all ≡ true
+  pub outside : part.outside ≡ Refused
+  pub run : (start : ℕ) × (end : ℕ) × (part.run ≡ lines_between start end) × IsPartWithin span all start end
+
+-- what is read of a file for a span: all of it, or the lines within the span
 pub record IsFilePart (span : Span) (all : List ℕ) (part : FilePart) : Type 0 where
   pub size : length all ≡ part.size
-  pub opl : is_opl all ≡ true → (part.outside ≡ Refused)
-      × ((start : ℕ) × (end : ℕ) × (part.run ≡ lines_between start end) × IsPartWithin span all start end)
-  pub o5 : is_opl all ≡ false → (part.outside ≡ Dropped) × (part.run ≡ whole_run)
+  pub read : IsWhole part ⊎ IsLinesWithin span all part
 
 -- the same, if the file's bytes are known and aren't too many
 abbrev pub IsPartOf : Span → Option (List ℕ) → FilePart → Type 0

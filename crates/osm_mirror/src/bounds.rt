@@ -1,22 +1,21 @@
 //! The bounds of shards. Objects are looked up at regular offsets of all OPL files, and the bounds cut them into shares
 //! of about equal size.
 ghost use Rattle.std.specs.Prelude.{◌≡◌, ◌++◌, ◌*◌, ◌<◌, ◌≤◌, ◌^◌, nat_le, true, length, List, ℕ, IfOk, OnOk, IfErr};
-ghost use Rattle.std.specs.Prelude.{IfSome, option_map, if◌then◌else◌};
+ghost use Rattle.std.specs.Prelude.{IfSome, if◌then◌else◌};
 ghost use Rattle.std.specs.List.Sorted.{IsPermutation};
 ghost use Rattle.osm_model.specs.Pairwise.{Pairwise};
 ghost use Rattle.osm_model.specs.VersionSet.{VersionSet};
 ghost use Rattle.osm_files.specs.Fault.{IsOfFile};
 ghost use Rattle.osm_files.specs.Held.{HoldsSorted};
-ghost use Rattle.osm_merge.specs.Slice.{object_of};
 ghost use Rattle.osm_mirror.specs.Bounds.{is_opl, step_of, found_in_all, found_once, probe_count, total_weight};
 ghost use Rattle.osm_mirror.specs.Bounds.{bound_of};
 ghost use Rattle.osm_mirror.specs.Probes.{HaveBytes, IsTotal, FindsInAll, FindsIn, FindsBy, Ascend, is_above};
 ghost use Rattle.osm_mirror.specs.ShardRefusal.{AreRefused, IsFileRefusal};
 
+use crate::lines_from::{LinesFrom, lines_before};
 use crate::shard_part::opl_size;
-use osm_files::{Fault, LENGTH_LIMIT, ReadAt, first_version};
+use osm_files::{Fault, LENGTH_LIMIT, ReadAt};
 use osm_merge::Object;
-use osm_model::Version;
 use std::alloc::{AllocError, Global};
 
 /// The number of probes for each shard.
@@ -103,7 +102,9 @@ fn probe_file<F: ReadAt>(
     }
 }
 
-/// Appends the objects that are found in an OPL file of `size` bytes at the multiples of `step`.
+/// Appends the objects that are found in an OPL file of `size` bytes at the multiples of `step`, the last one first.
+///
+/// Why: each probe reads only the lines before those that the next one knows, so no stretch is read by several probes.
 fn probe_lines<F: ReadAt>(
     alloc: Global,
     file: &F,
@@ -118,10 +119,13 @@ fn probe_lines<F: ReadAt>(
     ensures refused { IfErr result (IsFileRefusal (F.fails file.now) (F.bytes file.now)) }
     ensures number { IfErr result (IsOfFile input) }
 {
-    'probes: for number in 0..probe_count(step, size) {
-        let offset = probe_offset(number, step, size);
-        let first = first_version(alloc, file, input, offset)?;
-        push_found(first, step.min(size - offset), found)?;
+    let mut lines = LinesFrom::at_end(size);
+    let mut left = probe_count(step, size);
+    'probes: while left > 0 {
+        left -= 1;
+        let offset = probe_offset(left, step, size);
+        lines = lines_before(alloc, file, input, offset, lines)?;
+        push_found(lines.object, step.min(size - offset), found)?;
     }
     Ok(())
 }
@@ -144,17 +148,11 @@ fn probe_offset(number: u64, step: u64, size: u64) -> u64
     number * step
 }
 
-/// Appends the object of a version with its weight, if there is a version.
-fn push_found(
-    version: Option<Version>,
-    weight: u64,
-    found: &mut Vec<Found>,
-) -> Result<(), AllocError>
-    ensures { OnOk result (found.new.items
-        ≡ found.old.items ++ found_once weight (option_map object_of version)) }
+/// Appends an object with its weight, if there is an object.
+fn push_found(object: Option<Object>, weight: u64, found: &mut Vec<Found>) -> Result<(), AllocError>
+    ensures { OnOk result (found.new.items ≡ found.old.items ++ found_once weight object) }
 {
-    if let Some(version) = version {
-        let object = Object::of(&version);
+    if let Some(object) = object {
         found.push(Found { object, weight })?;
     }
     Ok(())

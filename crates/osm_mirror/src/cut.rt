@@ -1,19 +1,21 @@
 //! The offset at which an OPL file is cut at an object, so that each of several runs reads only its slice of the file.
-ghost use Rattle.std.specs.Prelude.{IfOk, IfErr};
+ghost use Rattle.std.specs.Prelude.{◌≡◌, IfOk, IfErr};
 ghost use Rattle.osm_files.specs.Fault.{IsOfFile};
 ghost use Rattle.osm_files.specs.FileRuns.{IsReadFailure};
-ghost use Rattle.osm_mirror.specs.CutOffset.{IsCutOf, BeginsLinesOf, IsCutRefusal, IsSearchRefusal};
-ghost use Rattle.osm_mirror.specs.CutOffset.{IsFirstUnder, BeginsAs};
+ghost use Rattle.osm_mirror.specs.CutOffset.{IsCutOf, BeginsLinesOf, IsCutRefusal, BeginsAs};
+ghost use Rattle.osm_mirror.specs.LinesFrom.{is_below};
 
+use crate::lines_from::{LinesFrom, lines_before};
 use opl_line::OplReason;
-use osm_files::{Broken, Fault, ReadAt, Reason, first_version, line_start};
+use osm_files::{Broken, Fault, ReadAt, Reason};
 use osm_merge::Object;
 use std::alloc::Global;
 
 /// The offset at which a sorted OPL file is cut at `bound`. The lines before it have the versions whose objects are
 /// below `bound`, and the lines from it on have the others. It is 0 or the offset after a line: the first such offset
 /// from which on the first version isn't below `bound`. So comments between two versions come after the cut. The search
-/// halves a range of offsets: it reads about 30 lines of a file of 1 GB.
+/// halves a range of offsets: it reads about 30 lines of a file of 1 GB. It reads a long line, or a long stretch of
+/// comments, at most twice.
 ///
 /// For a file that isn't sorted, it is some offset at which a line begins, or the file's length.
 ///
@@ -34,41 +36,32 @@ pub fn cut_offset<F: ReadAt>(
 {
     let mut low = 0_u64;
     let mut high = match file.size() {
-        Ok(size) => size,
+        Ok(size) => LinesFrom::at_end(size),
         Err(Broken) => return Err(Fault::at(input, 0, Reason::ReadFault)),
     };
-    // The versions whose lines begin before `low` are below the bound; those from `high` on are not.
-    'halves: while low < high {
-        let middle = low + (high - low) / 2;
-        if is_first_below(alloc, file, input, middle, bound)? {
-            low = middle + 1;
+    // The versions whose lines begin before `low` are below the bound; those of the lines `high` are not.
+    'halves: while low < high.offset {
+        let middle = low + (high.offset - low) / 2;
+        let lines = lines_before(alloc, file, input, middle, high)?;
+        if is_below(lines.object, bound) {
+            low = lines.start.clamp(middle, high.offset - 1) + 1;
         } else {
-            high = middle;
+            high = lines;
         }
     }
-    let offset = line_start(file, input, low)?;
-    if begins_as_o5(file, input, offset)? {
-        return Err(Fault::at(input, offset, Reason::Opl(OplReason::NotUtf8)));
+    if begins_as_o5(file, input, high.start)? {
+        return Err(Fault::at(input, high.start, Reason::Opl(OplReason::NotUtf8)));
     }
-    Ok(offset)
+    Ok(high.start)
 }
 
-/// Whether the object of the first version in the lines at `offset` or after it is below `bound`; `false` without such
-/// a version.
-fn is_first_below<F: ReadAt>(
-    alloc: Global,
-    file: &F,
-    input: usize,
-    offset: u64,
-    bound: Object,
-) -> Result<bool, Fault>
-    ensures below { IfOk result (IsFirstUnder (F.bytes file.now) bound offset) }
-    ensures refused { IfErr result (IsSearchRefusal (F.fails file.now) (F.bytes file.now) offset) }
-    ensures number { IfErr result (IsOfFile input) }
+/// Whether `object` is below `bound`; `false` without an object.
+fn is_below(object: Option<Object>, bound: Object) -> bool
+    ensures { result ≡ is_below bound object }
 {
-    match first_version(alloc, file, input, offset)? {
-        Some(version) => Ok(Object::of(&version).order(&bound).is_lt()),
-        None => Ok(false),
+    match object {
+        Some(object) => object.order(&bound).is_lt(),
+        None => false,
     }
 }
 

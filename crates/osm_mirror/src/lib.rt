@@ -15,6 +15,7 @@ mod input;
 mod keep;
 pub mod known_inputs;
 pub mod laws;
+mod lines_from;
 mod merge;
 mod mirror;
 mod moment;

@@ -1,9 +1,9 @@
 //! The part of a file that a run for a shard reads.
-ghost use Rattle.std.specs.Prelude.{◌≡◌, ◌<◌, true, length, IfOk, IfErr, IfSome};
+ghost use Rattle.std.specs.Prelude.{◌≡◌, ◌<◌, true, false, length, IfOk, IfErr, IfSome};
 ghost use Rattle.osm_files.specs.Fault.{IsOfFile};
 ghost use Rattle.osm_files.specs.FileRuns.{IsReadFailure};
 ghost use Rattle.osm_merge.specs.Slice.{is_ascending};
-ghost use Rattle.osm_mirror.specs.CutOffset.{IsCutRefusal};
+ghost use Rattle.osm_mirror.specs.CutOffset.{BeginsAs, IsCutRefusal};
 ghost use Rattle.osm_mirror.specs.ShardPart.{IsOplSize, BeginsAtOf, EndsAtOf, IsPartOf};
 ghost use Rattle.osm_mirror.specs.ShardRefusal.{IsFileRefusal};
 
@@ -11,6 +11,9 @@ use crate::cut::{begins_as_o5, cut_offset};
 use osm_files::{Broken, Fault, ReadAt, Reason, SortedRun};
 use osm_merge::{Object, Outside, Span};
 use std::alloc::Global;
+
+/// The size of the largest OPL file that is read whole. It takes less time than two searches for offsets.
+const SMALL_SIZE: u64 = 4096;
 
 /// The part of a file that is read for a shard.
 #[derive(Clone, Copy, Debug, PartialEq, Eq)]
@@ -48,8 +51,8 @@ fn size_of<F: ReadAt>(file: &F, input: usize) -> Result<u64, Fault>
     }
 }
 
-/// The part of a file that is read for the objects within `span`: the lines within it of an OPL file, and all of an o5
-/// file.
+/// The part of a file that is read for the objects within `span`: the lines within it of an OPL file; all of an o5 file,
+/// and of a small file.
 ///
 /// # Errors
 ///
@@ -67,7 +70,7 @@ pub(crate) fn part_of<F: ReadAt>(
     ensures number { IfErr result (IsOfFile input) }
 {
     let size = size_of(file, input)?;
-    if begins_as_o5(file, input, 0)? {
+    if is_read_whole(file, input, size)? {
         return Ok(FilePart {
             run: SortedRun::whole(),
             size,
@@ -90,6 +93,18 @@ pub(crate) fn part_of<F: ReadAt>(
         size,
         outside: Outside::Refused,
     })
+}
+
+/// Whether a file of `size` bytes is read whole. An o5 file is, and a small one.
+fn is_read_whole<F: ReadAt>(file: &F, input: usize, size: u64) -> Result<bool, Fault>
+    ensures lines { IfOk result (λ is_whole. is_whole ≡ false → BeginsAs (F.bytes file.now) 0 false) }
+    ensures refused { IfErr result (IsReadFailure (F.fails file.now)) }
+    ensures number { IfErr result (IsOfFile input) }
+{
+    if size <= SMALL_SIZE {
+        return Ok(true);
+    }
+    begins_as_o5(file, input, 0)
 }
 
 /// The offset at which the lines from a lower bound on begin.

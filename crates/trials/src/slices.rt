@@ -69,16 +69,28 @@ pub fn run_call(alloc: Global, call: &str, given: &Given) -> Result<Vec<u8>> {
 /// The offset of the first line of a file from an offset on.
 fn start(alloc: Global, given: &Given) -> Result<Vec<u8>> {
     let offset = given.word(0)?.parse::<u64>()?;
-    let start = line_start(&given.paced_file(0)?, 0, offset)?;
+    let file = given.paced_file(0)?;
+    let start = line_start(&file, 0, offset, size_of(&file)?)?;
     printed(alloc, format!(in alloc; "{start}")?.as_str(), b"")
 }
 
 /// The first version of the lines of a file from an offset on.
 fn first(alloc: Global, given: &Given) -> Result<Vec<u8>> {
     let offset = given.word(0)?.parse::<u64>()?;
-    match first_version(alloc, &given.paced_file(0)?, 0, offset)? {
+    let file = given.paced_file(0)?;
+    let size = size_of(&file)?;
+    let start = line_start(&file, 0, offset, size)?;
+    match first_version(alloc, &file, 0, start, size)? {
         Some(version) => line_of(alloc, &version),
         None => printed(alloc, "none", b""),
+    }
+}
+
+/// The size of a file.
+fn size_of(file: &PacedFile<'_>) -> Result<u64> {
+    match file.size() {
+        Ok(size) => Ok(size),
+        Err(Broken) => bail!("the file's size isn't known"),
     }
 }
 

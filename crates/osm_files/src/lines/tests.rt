@@ -1,7 +1,8 @@
 //! Lines from an offset on.
-use super::{first_version, line_start};
+use super::{FAR, first_version, line_start};
 use crate::input::Broken;
 use crate::read_at::ReadAt;
+use osm_model::Memory;
 use std::alloc::Global;
 
 /// Two nodes, a comment, an empty line, a way and a line that is no version. Lines begin at 0, 9, 19, 28, 29 and 38.
@@ -33,18 +34,19 @@ impl ReadAt for FailsFrom {
     }
 }
 
-/// The offset of the first line that begins at `offset` or after it, and the id of the first version from there.
-fn line_text<F: ReadAt>(alloc: Global, file: &F, offset: u64) -> String {
+/// The offset of the first line of `file` that begins at `offset` or after it, or `end`, and the id of the first version
+/// from there up to `end`.
+fn line_text<F: ReadAt>(alloc: Global, file: &F, offset: u64, end: u64) -> String {
     let mut text = String::new(alloc);
-    match line_start(file, 3, offset) {
-        Ok(start) => {
-            let _ = write!(text, "{start}: ");
-        }
+    let start = match line_start(file, 3, offset, end) {
+        Ok(start) => start,
         Err(fault) => {
-            let _ = write!(text, "{fault}: ");
+            let _ = write!(text, "{fault}");
+            return text;
         }
-    }
-    match first_version(alloc, file, 3, offset) {
+    };
+    let _ = write!(text, "{start}: ");
+    match first_version(alloc, file, 3, start, end) {
         Ok(Some(version)) => {
             let _ = write!(text, "{}", version.id());
         }
@@ -60,30 +62,56 @@ fn line_text<F: ReadAt>(alloc: Global, file: &F, offset: u64) -> String {
 
 #[test]
 fn lines_from_an_offset(rt: HostRuntime) {
-    for (offset, text) in [
-        (0, "0: 1"),
-        (1, "9: 2"),
-        (10, "19: 2"),
-        (20, "28: 3"),
-        (29, "29: 3"),
-        (30, "38: file 3, byte 38: NoVersion"),
-        (39, "40: none"),
-        (50, "49: none"),
+    for (offset, end, text) in [
+        (0, 40, "0: 1"),
+        (1, 40, "9: 2"),
+        (10, 40, "19: 2"),
+        (20, 40, "28: 3"),
+        (29, 40, "29: 3"),
+        (30, 40, "38: file 3, byte 38: NoVersion"),
+        (39, 40, "40: none"),
+        (50, 40, "40: none"),
+        (0, 0, "0: none"),
+        (1, 19, "9: none"),
+        (1, 9, "9: none"),
+        (1, 5, "5: none"),
+        (20, 38, "28: 3"),
     ] {
-        assert_eq!(rt; line_text(rt.alloc(), &FILE, offset).as_str(), text);
+        assert_eq!(rt; line_text(rt.alloc(), &FILE, offset, end).as_str(), text);
     }
 }
 
 #[test]
 fn lines_of_a_failing_file(rt: HostRuntime) {
-    for (end, offset, text) in [
-        (9, 0, "0: 1"),
-        (8, 0, "0: file 3, byte 8: ReadFault"),
-        (25, 1, "9: file 3, byte 25: ReadFault"),
-        (28, 9, "9: 2"),
-        (5, 1, "file 3, byte 5: ReadFault: file 3, byte 5: ReadFault"),
+    for (broken, offset, end, text) in [
+        (9, 0, 40, "0: 1"),
+        (8, 0, 40, "0: file 3, byte 8: ReadFault"),
+        (25, 1, 40, "9: file 3, byte 25: ReadFault"),
+        (25, 1, 19, "9: none"),
+        (28, 9, 40, "9: 2"),
+        (5, 1, 40, "file 3, byte 5: ReadFault"),
+        (5, 1, 5, "5: none"),
     ] {
-        let file = FailsFrom { end };
-        assert_eq!(rt; line_text(rt.alloc(), &file, offset).as_str(), text);
+        let file = FailsFrom { end: broken };
+        assert_eq!(rt; line_text(rt.alloc(), &file, offset, end).as_str(), text);
     }
+}
+
+#[test]
+fn a_line_may_be_longer_than_a_read(rt: HostRuntime) -> Result<(), Memory> {
+    let mut file = Vec::new(rt.alloc());
+    file.resize(3 * FAR, b'#')?;
+    file.extend_from_slice(b"\nn7 v1 dD\n")?;
+    let bytes = file.as_slice();
+    for (offset, end, text) in [
+        (0, 196_619, "0: 7"),
+        (1, 196_619, "196609: 7"),
+        (1, 196_608, "196608: none"),
+        (100_000, 196_619, "196609: 7"),
+        (1, 4_097, "4097: none"),
+        (1, 4_098, "4098: none"),
+    ] {
+        assert_eq!(rt; line_text(rt.alloc(), &bytes, offset, end).as_str(), text);
+    }
+    Ok(())
 }

@@ -1,28 +1,13 @@
-use Rattle.std.proofs.Common.{◌+◌, take, arith, rules, sym, ◌∙◌, inr}
-use Rattle.std.proofs.lemmas.Result.{IfOk-weaker, IfErr-weaker}
-use Rattle.osm_files.proofs.LineStarts.{scans_on, scan_finds, scan_is_long}
+use Rattle.std.proofs.Common.{◌≡◌, ◌≤◌, ◌<◌, arith, inl, inr}
+use Rattle.std.proofs.lemmas.Result.{IfOk-weaker}
+use Rattle.osm_files.proofs.LineStarts.{start_near, start_far}
 use Rattle.osm_files.proofs.lines.line_start.Goals as goal
 
-pub returns-in-Some-clause-start : goal.returns-in-Some-clause-start
-returns-in-Some-clause-start g c =
-    IfOk-weaker c.start_below_limit.result _ _
-    (λ start same. scan_finds (g.F.ReadAt.bytes c.args.file.now) c.args.offset c.reads.place start
-    (take c.in-Ok.count c.read_at.new.buffer) c.in-Some.end c.reads.invariant c.in-Ok.ensures.bytes
-    (sym c.find_line_end.ensures ∙ c.in-Some.is) (omega (arith, same)))
-    c.start_below_limit.ensures.same
-
-pub reads-preserved : goal.reads-preserved
-reads-preserved g c =
-    scans_on (g.F.ReadAt.bytes c.args.file.now) c.args.offset c.reads.place (c.reads.place + c.in-Ok.count)
-    (take c.in-Ok.count c.read_at.new.buffer) c.reads.invariant c.in-Ok.ensures.bytes (search rules) (search (rules, arith))
-
-pub returns-in-Some-clause-refused : goal.returns-in-Some-clause-refused
-returns-in-Some-clause-refused g c =
-    IfErr-weaker c.start_below_limit.result _ _
-    (λ fault h. inr (
-      h.0,
-      scan_is_long (g.F.ReadAt.bytes c.args.file.now) c.args.offset c.reads.place
-          (c.reads.place + c.in-Some.end + 1) (take c.in-Ok.count c.read_at.new.buffer) c.in-Some.end c.in-Ok.ensures.bytes
-          (sym c.find_line_end.ensures ∙ c.in-Some.is) (omega arith) h.1,
-    ))
-    c.start_below_limit.ensures.refused
+pub returns-clause-start : goal.returns-clause-start
+returns-clause-start g c =
+    let near = c.min-near.result in
+    let late : near ≤ c.in_ok-start.start = omega (arith, c.if-start-near.false) in
+    IfOk-weaker c.search_far.result _ _
+    (λ later far. start_far (g.F.ReadAt.bytes c.args.file.now) c.args.offset near c.args.end c.in_ok-start.start later
+    (omega (arith, c.min-near.ensures, c.saturating_add.ensures, c.if-near-end.false)) c.in_ok-start.ensures.start late far)
+    c.search_far.ensures.start

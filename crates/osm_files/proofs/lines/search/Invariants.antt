@@ -1,9 +1,9 @@
-use Rattle.std.proofs.Common.{◌-◌, ◌^◌}
+use Rattle.std.proofs.Common.{◌-◌}
 use Rattle.osm_files.proofs.LineStarts.{Scanned}
-use Rattle.osm_files.proofs.lines.line_start.Given as goal
+use Rattle.osm_files.proofs.lines.search.Given as goal
 
 abbrev pub invariant-reads : goal.invariant-reads
 invariant-reads g l = Scanned (g.F.ReadAt.bytes l.file) l.offset l.place
 
 abbrev pub decreases-reads : goal.decreases-reads
-decreases-reads g l = 2 ^ 62 - l.place
+decreases-reads g l = l.end - l.place
