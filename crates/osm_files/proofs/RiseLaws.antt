@@ -148,9 +148,6 @@ group_on : (first : VersionData) (others : List VersionData) (v : VersionData) �
 group_on first others v group same = all_append (λ w. key_cmp first w ≡ Equal) others (v ∷ []) group (same, tt)
 
 module _ (input : ℕ) (close : Option Fault) where
-  abbrev RisesWith : List Placed → VersionData → List VersionData → Ordering → Type 0
-  RisesWith us first others o = (u : Placed) → key_cmp first u.version ≡ o → Rises first (groups input close (u ∷ us) (first ∷ others)).list
-
   rises : (us : List Placed) (first : VersionData) (others : List VersionData) → IsGroup first others →
       Rises first (groups input close us (first ∷ others)).list
   rises [] first others group = last_rises close first others group

@@ -41,12 +41,6 @@ none_some e = cc
 some_same : {A : Type 0} {x y : A} → Some x ≡ Some y → x ≡ y
 some_same e = cc
 
-is_memory : Memory ≡ TooLong → ⊥
-is_memory e = cc
-
-is_write : WriteFault ≡ TooLong → ⊥
-is_write e = cc
-
 -- ---- within the ranges of versions
 none_listed : length (to_list (from_list {R = version_cmp} [])) ≡ 0
 unfolding IsStrictlySortedBy
@@ -177,16 +171,3 @@ spelling_holds format set bytes valid is short = subst (λ (b : List ℕ). Holds
 pub appended_to_empty : (old new bytes file : List ℕ) → IsAppended (λ held. old ≡ held) (λ held. new ≡ held) bytes → old ≡ [] → file ≡ new
     → file ≡ bytes
 appended_to_empty old new bytes file h none is = is ∙ h [] none
-
--- why the file of a set isn't written to memory, as a fault of the mirror
-unwritten_cases : (format : Format) (set : VersionSet) (count : ℕ) (failed : Bool) (fault known : Fault)
-    → (fault.reason ≡ TooLong → known ≡ fault) → ((fault.reason ≡ TooLong → ⊥) → known ≡ memory_fault)
-    → (fault ≡ memory_fault) ⊎ ((fault ≡ write_fault 1 count) × (failed ≡ true))
-    ⊎ ((fault ≡ too_long_fault 1) × (2 ^ 62 ≤ length (spell format set)))
-    → WhyNotSpelled format set known
-unwritten_cases format set count failed fault known long other (inl memory) =
-    inl (other (λ e. is_memory (sym (ap (λ (f : Fault). f.reason) memory) ∙ e)))
-unwritten_cases format set count failed fault known long other (inr (inl broken)) =
-    inl (other (λ e. is_write (sym (ap (λ (f : Fault). f.reason) (broken.0)) ∙ e)))
-unwritten_cases format set count failed fault known long other (inr (inr big)) =
-    inr (long (ap (λ (f : Fault). f.reason) (big.0)) ∙ big.0, big.1)
