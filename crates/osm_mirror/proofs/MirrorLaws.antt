@@ -10,8 +10,6 @@ use Rattle.osm_model.proofs.VersionLaws.{to_list-view}
 use Rattle.osm_files.specs.declared.fault.Fault.{Fault}
 use Rattle.osm_files.specs.declared.format.Format.{Format}
 use Rattle.osm_files.specs.declared.load.Loaded.{Loaded}
-use Rattle.osm_files.specs.declared.reason.Reason.TheVariants.{TooLong, Memory, WriteFault}
-use Rattle.osm_files.specs.Fault.{memory_fault, too_long_fault, write_fault}
 use Rattle.osm_files.specs.Held.{Holds, HoldsSorted}
 use Rattle.osm_files.specs.Input.{InputRest, GivesOne, whole_input}
 use Rattle.osm_files.specs.Load.{Loads, StopsLoading}
