@@ -364,6 +364,25 @@ nothing_between all start end lines is =
           (subst (λ xs. Rise None xs None) (sym none) (nothing_rises None));
     }
 
+-- The bytes of a file between two offsets, in two parts.
+pub between_both : (all : List ℕ) (start middle end : ℕ) → start ≤ middle → middle ≤ end
+    → bytes_between all start end ≡ bytes_between all start middle ++ bytes_between all middle end
+between_both all start middle end low high =
+    let sum : end - start ≡ middle - start + (end - middle) = omega (arith, low, high) in
+    let back : start + (middle - start) ≡ middle = omega (arith, low) in
+    ap (λ n. take n (drop start all)) sum
+    ∙ take-add (middle - start) (end - middle) (drop start all)
+    ∙ ap (λ xs. bytes_between all start middle ++ take (end - middle) xs)
+    (drop-drop (middle - start) start all ∙ ap (λ n. drop n all) back)
+
+-- The bytes of a file from a window on.
+pub window_between : (all : List ℕ) (place end : ℕ) (window : List ℕ) (at : AreAt (Some all) place window) → place + length window ≤ end
+    → bytes_between all place end ≡ window ++ take (end - (place + length window)) at.0
+window_between all place end window at fits =
+    let n : ℕ = end - (place + length window) in
+    let left : end - place ≡ length window + n = omega (arith, fits) in
+    ap (take (end - place)) at.1 ∙ ap (λ k. take k (window ++ at.0)) left ∙ take-append-add window at.0 n
+
 -- a window of a file: these bytes follow `lines`
 module _ (all : List ℕ) (start end : ℕ) (lines : RisingLines) (window : List ℕ) (at : AreAt (Some all) lines.end window)
     (after_start : start ≤ lines.end) (less : lines.end < end) (fits : lines.end + length window ≤ end)
@@ -375,14 +394,9 @@ module _ (all : List ℕ) (start end : ℕ) (lines : RisingLines) (window : List
   lines_in : (place : ℕ) → lines.end ≤ place → place ≤ lines.end + length window
       → bytes_between all start place ≡ bytes_between all start lines.end ++ lines_to window lines place
   lines_in place low high =
-      let sum : place - start ≡ lines.end - start + (place - lines.end) = omega (arith, low, after_start) in
-      let back : start + (lines.end - start) ≡ lines.end = omega (arith, after_start) in
-      ap (λ n. take n (drop start all)) sum
-      ∙ take-add (lines.end - start) (place - lines.end) (drop start all)
-      ∙ ap (λ xs. bytes_between all start lines.end ++ take (place - lines.end) xs)
-      (drop-drop (lines.end - start) start all ∙ ap (λ n. drop n all) back ∙ at.1)
+      between_both all start lines.end place after_start low
       ∙ ap (λ xs. bytes_between all start lines.end ++ xs)
-      (take-append-le (place - lines.end) window at.0 (omega (arith, high)))
+      (ap (take (place - lines.end)) at.1 ∙ take-append-le (place - lines.end) window at.0 (omega (arith, high)))
 
   rise_in : (place : ℕ) (after : Option Key) → lines.end ≤ place → place ≤ lines.end + length window
       → Rise lines.last (lines_to window lines place) after → Rise None (bytes_between all start place) after
@@ -410,15 +424,8 @@ module _ (all : List ℕ) (start end : ℕ) (lines : RisingLines) (window : List
 
   whole_lines : bytes_between all start end ≡ bytes_between all start lines.end ++ (window ++ rest_of)
   whole_lines =
-      let sum : end - start ≡ lines.end - start + (end - lines.end) = omega (arith, less, after_start) in
-      let back : start + (lines.end - start) ≡ lines.end = omega (arith, after_start) in
-      let left : end - lines.end ≡ length window + (end - (lines.end + length window)) = omega (arith, fits) in
-      ap (λ n. take n (drop start all)) sum
-      ∙ take-add (lines.end - start) (end - lines.end) (drop start all)
-      ∙ ap (λ xs. bytes_between all start lines.end ++ take (end - lines.end) xs)
-      (drop-drop (lines.end - start) start all ∙ ap (λ n. drop n all) back ∙ at.1)
-      ∙ ap (λ n. bytes_between all start lines.end ++ take n (window ++ at.0)) left
-      ∙ ap (λ xs. bytes_between all start lines.end ++ xs) (take-append-add window at.0 (end - (lines.end + length window)))
+      between_both all start lines.end end after_start (omega (arith, less))
+      ∙ ap (λ xs. bytes_between all start lines.end ++ xs) (window_between all lines.end end window at fits)
 
   -- A stop in the window is the result of the search.
   pub stops_search : (Fails : Type 0) (input : ℕ) (is_last : Bool) (place : ℕ) (why : Stop)

@@ -1,9 +1,9 @@
 -- The order of data sets by their keys.
 use Rattle.std.proofs.Common.{◌≡◌, ℕ, ℤ, pos, ◌+◌, ◌-◌, ◌≤◌, ◌<◌, List, [], ◌∷◌, ◌++◌, length, take, drop, Option, Some, None, IfSome}
 use Rattle.std.proofs.Common.{refl, sym, ap, ◌∙◌, subst, arith, append-nil, length-append, length-drop, length-take}
-use Rattle.std.proofs.Math.Seq.{take-add, take-append-add}
+use Rattle.std.proofs.Math.Seq.{take-add}
 use Rattle.std.proofs.lemmas.Grind.{flat_map-append}
-use Rattle.std.proofs.lemmas.List.{drop-drop, drop-append-le, take-take}
+use Rattle.std.proofs.lemmas.List.{drop-append-le, take-take}
 use Rattle.osm_files.specs.declared.line_key.Key.{Key}
 use Rattle.osm_files.specs.declared.set_key.KeyPart.{KeyPart}
 use Rattle.osm_files.specs.declared.set_order.RisingSets.{RisingSets}
@@ -12,6 +12,7 @@ use Rattle.osm_files.specs.O5.{FilePart, part_bytes}
 use Rattle.osm_files.specs.ReadAt.{AreAt}
 use Rattle.osm_files.specs.SetKey.{AreKeyed, AreKeyedSets, StartKeyedSets, IsPartOf}
 use Rattle.osm_files.specs.SetOrder.{AreSetsAnd, Continues}
+use Rattle.osm_files.proofs.KeyOrderLaws.{between_both, window_between}
 
 -- ---- parts in sequence
 keyed_both : (base : ℤ) (before : Option Key) (parts : List FilePart) (middle : ℤ) (last : Option Key) (others : List FilePart)
@@ -74,16 +75,6 @@ continues_on window rest sets read next part end all inside fits done is and =
     }
 
 -- ---- the sets of a file
-between_both : (all : List ℕ) (start middle end : ℕ) → start ≤ middle → middle ≤ end
-    → bytes_between all start end ≡ bytes_between all start middle ++ bytes_between all middle end
-between_both all start middle end low high =
-    let sum : end - start ≡ middle - start + (end - middle) = omega (arith, low, high) in
-    let back : start + (middle - start) ≡ middle = omega (arith, low) in
-    ap (λ n. take n (drop start all)) sum
-    ∙ take-add (middle - start) (end - middle) (drop start all)
-    ∙ ap (λ xs. bytes_between all start middle ++ take (end - middle) xs)
-    (drop-drop (middle - start) start all ∙ ap (λ n. drop n all) back)
-
 -- the data sets of a file from an offset on, as far as they were read
 pub record SetsTo (all : List ℕ) (start : ℕ) (sets : RisingSets) : Type 0 where
   pub after : start ≤ sets.end
@@ -99,9 +90,7 @@ module _ (start end : ℕ) (sets : RisingSets) (window : List ℕ) (fits : sets.
       → InWindow window sets end read → SetsTo all start read
   read_in all at long done read within =
       let n : ℕ = end - (sets.end + length window) in
-      let left : end - sets.end ≡ length window + n = omega (arith, fits) in
-      let bytes : bytes_between all sets.end end ≡ window ++ take n at.0 =
-      ap (take (end - sets.end)) at.1 ∙ ap (λ k. take k (window ++ at.0)) left ∙ take-append-add window at.0 n in
+      let bytes : bytes_between all sets.end end ≡ window ++ take n at.0 = window_between all sets.end end window at fits in
       let whole : length (drop sets.end all) ≡ length window + length at.0 = ap length at.1 ∙ length-append window at.0 in
       let all_there : sets.end + length (window ++ take n at.0) ≡ end =
       omega (arith, fits, long, whole, length-drop sets.end all, length-append window (take n at.0), length-take n at.0) in

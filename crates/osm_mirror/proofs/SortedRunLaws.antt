@@ -1,6 +1,7 @@
 -- A file that is split into files in sequence holds the union of their sets.
 use Rattle.std.proofs.Common.{◌≡◌, ⊎_elim, ℕ, true, List, [], ◌∷◌, ◌++◌, map, sym, ap, ◌∙◌}
 use Rattle.std.proofs.Common.{append_assoc, append-nil, None}
+use Rattle.std.proofs.lemmas.List.{append_cancel_right}
 use Rattle.std.proofs.lemmas.Grind.{flat_map-append}
 use Rattle.osm_model.specs.Data.{VersionData}
 use Rattle.osm_model.specs.VersionSet.{VersionSet}
@@ -16,7 +17,7 @@ use Rattle.osm_files.specs.Held.{IsFile, Holds}
 use Rattle.osm_files.specs.SortedRun.{SplitAfterLine, SplitAtReset, IsSplitInto}
 use Rattle.osm_files.specs.Spell.{spell}
 use Rattle.osm_files.proofs.FileLaws.{Header}
-use Rattle.osm_files.proofs.JoinLaws.{lines_of, lines_after, header_starts, bytes_of, before_end, after_header, starts_as}
+use Rattle.osm_files.proofs.JoinLaws.{lines_of, lines_after, header_starts, bytes_of, after_header, starts_as}
 use Rattle.osm_files.proofs.JoinLaws.{starts_with_reset}
 use Rattle.osm_files.proofs.SpellLaws.{held_is_one_set}
 use Rattle.osm_merge.specs.Selected.{selection_of}
@@ -52,6 +53,13 @@ module _ (more : List FilePart) (later : List VersionData) (spelled : PartsSpell
   parts_joined s (Skipped b size content ∷ parts) earlier h = (h.0, h.1, parts_joined s parts earlier h.2)
   parts_joined s (Object k size content ∷ parts) earlier (sized, (v, next, others, is, spells, h)) =
       (sized, (v, next, others ++ later, ap (λ vs. vs ++ later) is, spells, parts_joined next parts others h))
+
+-- what a file has before its end byte
+before_end : (front : List ℕ) (versions : List VersionData) (file : O5File (front ++ end_byte ∷ []) versions) →
+    front ≡ file.header ++ bytes_of file.parts
+before_end front versions file =
+    append_cancel_right front (file.header ++ bytes_of file.parts) (end_byte ∷ [])
+    (file.whole ∙ sym (append_assoc file.header (bytes_of file.parts) (end_byte ∷ [])))
 
 o5_joined : (front header more : List ℕ) (earlier later : List VersionData) → Header header
     → O5File (front ++ end_byte ∷ []) earlier → O5File (header ++ more) later → O5File (front ++ reset_byte ∷ more) (earlier ++ later)
