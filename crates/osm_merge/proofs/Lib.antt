@@ -13,7 +13,13 @@ mod Settling
 mod MergeLaws
 pub mod UnionLaws
 mod RepeatLaws
+mod HeadsLaws
+mod CountLaws
+mod PutLaws
 mod Running
+mod TurnLaws
+mod EndLaws
+mod WorkLaws
 pub mod SnapLaws
 pub mod UnionAllLaws
 pub mod SliceLaws

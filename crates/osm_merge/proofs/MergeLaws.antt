@@ -197,6 +197,7 @@ same_next selection held v met q more e f =
     ] refl
 
 -- ---- the turn
+-- After the least head is taken, the merge is one version further.
 pub merge_more : (selection : Selection) (all states : List VersionsToCome) (met : List VersionData) (held top : Option VersionData)
     (taken w : ℕ) (v : VersionData)
     → IsMerging selection all states met held top taken → w < length states → head (rest_at states w) ≡ Some v

@@ -182,23 +182,6 @@ put_front (State t) xs more = settled_front (keeps (State t)) xs more
 put_front (StateVisible t) xs more = settled_front (keeps (StateVisible t)) xs more
 put_front (Between from to) xs more = settled_front (keeps (Between from to)) xs more
 
-settled_strict : (keeps : VersionData → Option VersionData → Bool) (xs : List VersionData) → IsStrictlySortedBy version_cmp xs →
-    IsStrictlySortedBy version_cmp (settled_versions keeps xs)
-settled_strict keeps [] h = h
-settled_strict keeps (x ∷ xs) h =
-    decided_ascends version_cmp keeps x (first xs) (settled_versions keeps xs)
-    (all_settled keeps (λ y. version_cmp x y ≡ Less) xs (first_below version_cmp x xs h))
-    (settled_strict keeps xs (rest_ascends version_cmp x xs h))
-
--- the versions put ascend
-pub put_ascends : (selection : Selection) (met : List VersionData) → IsStrictlySortedBy version_cmp met →
-    IsStrictlySortedBy version_cmp (put_of selection met)
-put_ascends selection met h =
-    elim (puts_at_once selection) as (λ b. IsStrictlySortedBy version_cmp (cond b met (settled_versions (keeps selection) met))) [
-      | true ↦ h
-      | false ↦ settled_strict (keeps selection) met h
-    ]
-
 all_kept : {K : Type 0} (keeps : K → Option K → Bool) (P : K → Type 0) (xs : List K) → AllByRecursion P xs →
     AllByRecursion P (versions_that_stay keeps xs)
 all_kept keeps P [] h = tt

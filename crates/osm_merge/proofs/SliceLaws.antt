@@ -37,6 +37,7 @@ use Rattle.osm_merge.proofs.SelectedLaws.{listed_with, none_next}
 use Rattle.osm_merge.proofs.SnapLaws.{contains-retain, retain_all}
 
 -- ---- the order of objects
+-- The order of objects is total.
 pub order_total : IsTotalOrder object_order
 order_total =
     then_total (then_total (on_total (λ o. kind_order o.kind) nat_cmp_total) (on_total (λ o. is_positive o.id) bool_cmp_total))
@@ -302,6 +303,7 @@ pub selected_of_slice : SelectedOfSlice
 selected_of_slice selection from to s = selected_left (is_within from to) (within_same from to) selection s
 
 -- ---- unions
+-- The slice of a union is the union of the slices.
 pub slice_of_unions : SliceOfUnions
 slice_of_unions from to sets = retain_all (is_within from to) sets
 

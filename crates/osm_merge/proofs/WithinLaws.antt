@@ -106,22 +106,6 @@ module _ {S : Type 0} (can : S → VersionsToCome → Type 0) (w : Within S) (s 
           ),
         )
 
-    pub piece_ends : Explained (can w.source) (can s) (λ a b. SourceStep (Some a) (Ok None) (Some b))
-        → Explained (can w.source) (can s) (λ a b.
-        SourceStep (Some (refused_outside w.number w.span a)) (Ok None) (Some (still_within (moved w s w.state) b)))
-    piece_ends step b can_give =
-        let y = step b can_give in
-        let none : b ≡ end_whole = cc in
-        let p : VersionData → Bool = is_within w.span.from w.span.to in
-        let end : VersionsToCome = end_refused (stray_fault w.number) in (
-          y.0,
-          y.1,
-          (
-            ap (λ f. up_to p end f.refusal f.list) y.2.0,
-            ap Some (refusing b ∙ ap (λ f. up_to p end f.refusal f.list) none),
-          ),
-        )
-
   -- the next version is outside
   pub piece_strays : (v : VersionData) → is_within w.span.from w.span.to v ≡ false →
       Explained (can w.source) (can s) (λ a b. SourceStep (Some a) (Ok (Some v)) (Some b)) → Explained (can w.source) (can s) (λ a b.
