@@ -1,6 +1,5 @@
 -- Tallies, counted version by version.
-use Rattle.std.proofs.Common.{◌≡◌, ℕ, ◌+◌, ◌∷◌, [], List, Bool, true, false, length, refl, sym, ap, ◌∙◌, arith, Option, Some, None, min, max}
-use Rattle.std.specs.List.{filter}
+use Rattle.std.proofs.Common.{◌≡◌, ℕ, ◌+◌, ◌∷◌, [], List, Bool, true, false, refl, sym, ap, ◌∙◌, arith, Option, Some, None, min, max}
 use Rattle.osm_model.specs.Data.{VersionData}
 use Rattle.osm_model.specs.declared.kind.Kind.TheVariants.{Node, Way, Relation}
 use Rattle.osm_merge.specs.Union.{capped_count}

@@ -1,5 +1,6 @@
 -- The numbers of versions by what they are, and their first and last time: an own rule of this project.
-use Rattle.std.specs.Prelude.{◌≡◌, ℕ, ◌+◌, ◌==◌, Bool, min, max, List, [], ◌∷◌, length, Option, Some, None, if◌then◌else◌}
+use Rattle.std.specs.Prelude.{◌≡◌, ℕ, ◌+◌, ◌==◌, Bool, min, max, List, [], ◌∷◌, length, Option, Some, None}
+use Rattle.std.specs.Prelude.{if◌then◌else◌}
 use Rattle.std.specs.List.{filter}
 use Rattle.osm_model.specs.Data.{VersionData, kind_of, is_deleted}
 use Rattle.osm_model.specs.declared.kind.Kind.{Kind}

@@ -107,5 +107,18 @@ impl Display for Reply {
     }
 }
 
+/// The replies to events: a line for each, with the number of the event from 1.
+#[derive(Clone, Copy, Debug)]
+pub struct Replies<'a>(pub &'a [Reply]);
+
+impl Display for Replies<'_> {
+    fn fmt<W: fmt::Write>(&self, f: &mut Formatter<W>) -> fmt::Result {
+        for (index, reply) in self.0.iter().enumerate() {
+            write!(f, "{} {reply}\n", index + 1)?;
+        }
+        Ok(())
+    }
+}
+
 #[cfg(test)]
 mod tests;

@@ -40,8 +40,8 @@ impl Display for Explanation {
     }
 }
 
-/// Each reason with its meaning, and with what to do: those of the order and of files, of lines, of data sets, of devices
-/// and of plans.
+/// Each reason with its meaning, and with what to do: those of the order and of files, of lines, of data sets, of
+/// devices and of plans.
 pub static REASONS: [(&str, &str, &str); 28] = [
     (
         "Unsorted",

@@ -1,6 +1,7 @@
 //! Names, as they are shown within other text: on a terminal, in a command for a shell, and in JSON.
-use std::fmt;
 use std::fmt::{Display, Formatter};
+use std::io::Write as _;
+use std::{fmt, io, str};
 
 /// A text whose control characters are shown as escapes.
 #[derive(Clone, Copy, Debug)]
@@ -45,8 +46,8 @@ impl Display for Quoted<'_> {
     }
 }
 
-/// A text as a string of JSON, with its quotes. RFC 8259 requires escapes for quotes, backslashes and control characters
-/// below U+0020. The other characters that a terminal acts on are escaped, too.
+/// A text as a string of JSON, with its quotes. RFC 8259 requires escapes for quotes, backslashes and control
+/// characters below U+0020. The other characters that a terminal acts on are escaped, too.
 #[derive(Clone, Copy, Debug)]
 pub struct JsonText<'a>(pub &'a str);
 
@@ -61,6 +62,45 @@ impl Display for JsonText<'_> {
             }
         }
         f.write_char('"')
+    }
+}
+
+/// Bytes, of which those that aren't printable ASCII are shown as escapes.
+#[derive(Clone, Copy, Debug)]
+pub struct EscapedBytes<'a>(pub &'a [u8]);
+
+impl Display for EscapedBytes<'_> {
+    fn fmt<W: fmt::Write>(&self, f: &mut Formatter<W>) -> fmt::Result {
+        for byte in self.0 {
+            if *byte == b' ' || byte.is_ascii_graphic() {
+                f.write_char(*byte as char)?;
+            } else {
+                write!(f, "\\x{:02x}", *byte)?;
+            }
+        }
+        Ok(())
+    }
+}
+
+/// A writer to a terminal that escapes the control characters of the text that it is given. A line feed that ends a
+/// write is a line's end.
+#[derive(Drop)]
+pub struct EscapedOut<'o, O>(pub &'o mut O);
+
+impl<O: io::Write> io::Write for EscapedOut<'_, O> {
+    fn write(&mut self, bytes: &[u8]) -> io::Result<usize> {
+        let Ok(text) = str::from_utf8(bytes) else {
+            return self.0.write(bytes);
+        };
+        match text.strip_suffix('\n') {
+            Some(line) => writeln!(self.0, "{}", Escaped(line))?,
+            None => write!(self.0, "{}", Escaped(text))?,
+        }
+        Ok(bytes.len())
+    }
+
+    fn flush(&mut self) -> io::Result<()> {
+        self.0.flush()
     }
 }
 

@@ -1,5 +1,5 @@
 //! Replies as they are printed.
-use super::Reply;
+use super::{Replies, Reply};
 use osm_files::{Fault, Reason};
 
 #[test]
@@ -14,4 +14,14 @@ fn replies_have_a_text(rt: HostRuntime) {
     ] {
         assert!(rt; format!(in rt.alloc(); "{reply}").is_ok_and(|found| found.as_str() == text));
     }
+}
+
+#[test]
+fn replies_have_numbers(rt: HostRuntime) {
+    let replies = [
+        Reply::Taken,
+        Reply::Refused(Fault::at(0, 40, Reason::NoEnd)),
+    ];
+    let shown = format!(in rt.alloc(); "{}", Replies(&replies));
+    assert!(rt; shown.is_ok_and(|text| text.as_str() == "1 Taken\n2 Refused 40 NoEnd\n"));
 }

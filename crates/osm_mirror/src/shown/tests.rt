@@ -1,5 +1,5 @@
 //! Names in text, in a command and in JSON.
-use super::{Escaped, JsonText, Quoted};
+use super::{Escaped, EscapedBytes, JsonText, Quoted};
 
 #[test]
 fn names_are_shown_in_each_form(rt: HostRuntime) {
@@ -28,4 +28,10 @@ fn names_are_shown_in_each_form(rt: HostRuntime) {
             format!(in alloc; "{}", JsonText(name)).is_ok_and(|text| text.as_str() == json)
         );
     }
+}
+
+#[test]
+fn bytes_are_shown_as_ascii(rt: HostRuntime) {
+    let shown = format!(in rt.alloc(); "{}", EscapedBytes(b"a\xff \x1b'\\"));
+    assert!(rt; shown.is_ok_and(|text| text.as_str() == "a\\xff \\x1b'\\"));
 }
