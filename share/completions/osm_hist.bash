@@ -17,9 +17,9 @@ _osm_hist_options() {
     merge) echo --output -o --format -f --shard --fsync --progress --summary --whole --ended --files0-from --hints --help -h ;;
     apply) echo --output -o --format -f --shard --fsync --progress --summary --whole --ended --files0-from --hints --with-history --with-deletions --sorted --help -h ;;
     time-filter | sort) echo --output -o --format -f --shard --fsync --progress --summary --whole --ended --files0-from --hints --sorted --help -h ;;
-    check) echo --sorted --whole --ended --files0-from --hints --help -h ;;
+    check) echo --sorted --summary --json --whole --ended --files0-from --hints --help -h ;;
     plan) echo --strict --hints --help -h ;;
-    '') echo --help -h --version -V ;;
+    '') echo --explain --help -h --version -V ;;
     esac
 }
 
@@ -32,7 +32,7 @@ _osm_hist() {
     if [ "$before" = = ]; then before=${COMP_WORDS[COMP_CWORD - 2]}; fi
     case $before in
     --format | -f) _osm_hist_offer 'opl o5m o5c' "$word" && return ;;
-    --shard) return ;;
+    --shard | --explain) return ;;
     --output | -o | --files0-from) _osm_hist_files "$word" && return ;;
     esac
     case $word in

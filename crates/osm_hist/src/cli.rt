@@ -1,6 +1,5 @@
 //! Commands: their arguments are parsed, the command is run, and its result is reported.
 mod command;
-mod escape;
 mod file_check;
 mod file_run;
 mod files;
@@ -16,9 +15,9 @@ mod target;
 
 use clap::{ArgMatches, Error};
 use command::command;
-use escape::Escaped;
 use file_check::check_files;
 use file_run::run_files;
+use osm_mirror::{Escaped, Explanation};
 use plan_run::run_plan;
 pub(crate) use refusal::Refusal;
 use request::{Request, read_list};
@@ -54,19 +53,16 @@ where
     match parsed {
         Ok(args) => match args.subcommand() {
             Some((name, args)) => run_command(rt, name, args, input, &mut out, &mut err),
-            None => Refusal::NoCommand.report(&mut err),
+            None => {
+                let printed = print_explanation(rt.alloc(), args.get_str("explain"), &mut out);
+                status_of(rt, printed, &mut err)
+            }
         },
-        Err(help) if !help.use_stderr() => match print_help(rt.alloc(), &help, &mut out) {
-            Ok(()) => 0,
-            Err(refusal) => hint::report(rt, &refusal, &mut err, false),
-        },
+        Err(help) if !help.use_stderr() => {
+            status_of(rt, print_help(rt.alloc(), &help, &mut out), &mut err)
+        }
         Err(mistake) => {
-            let is_shown = err.is_terminal();
-            let shown = if is_shown {
-                escaped_mistake(rt.alloc(), words)
-            } else {
-                None
-            };
+            let shown = escaped_mistake(rt.alloc(), words).filter(|_| err.is_terminal());
             let mistake = Refusal::of_args(shown.unwrap_or(mistake));
             hint::report(rt, &mistake, &mut err, false)
         }
@@ -138,6 +134,29 @@ fn run_request<I: Read + Drop, O: Write + IsTerminal, E: Write + IsTerminal>(
     }
 }
 
+/// Reports a refusal, if there is one, and returns the exit status.
+fn status_of<E: Write + IsTerminal>(
+    rt: &HostRuntime,
+    outcome: Result<(), Refusal<'_>>,
+    err: &mut E,
+) -> u8 {
+    match outcome {
+        Ok(()) => 0,
+        Err(refusal) => hint::report(rt, &refusal, err, false),
+    }
+}
+
+/// Prints what `reason` means, and what to do.
+fn print_explanation<'a, O: Write>(
+    alloc: Global,
+    reason: Option<&'a str>,
+    out: &mut O,
+) -> Result<(), Refusal<'a>> {
+    let reason = reason.ok_or(Refusal::NoCommand)?;
+    let row = Explanation::named(reason).ok_or(Refusal::NotReason { reason })?;
+    print(out, &format!(in alloc; "{row}.\n{}\n", row.remedy)?)
+}
+
 /// Prints help or the version.
 fn print_help<O: Write>(alloc: Global, help: &Error, out: &mut O) -> Result<(), Refusal<'static>> {
     print(out, &format!(in alloc; "{help}")?)
@@ -145,10 +164,8 @@ fn print_help<O: Write>(alloc: Global, help: &Error, out: &mut O) -> Result<(), 
 
 /// Prints a text, which has its own line feeds, in one write.
 fn print<'a, O: Write>(out: &mut O, text: &String) -> Result<(), Refusal<'a>> {
-    match out.write_all(text.as_bytes()).and_then(|()| out.flush()) {
-        Ok(()) => Ok(()),
-        Err(_) => Err(Refusal::StandardOutput),
-    }
+    let printed = out.write_all(text.as_bytes()).and_then(|()| out.flush());
+    printed.map_err(|_| Refusal::StandardOutput)
 }
 
 #[cfg(test)]

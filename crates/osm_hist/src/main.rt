@@ -2,10 +2,11 @@
 #![tactic(auto)]
 
 use crate::cli::{Refusal, run_words};
+use osm_mirror::EscapedBytes;
 use std::alloc::AllocError;
 use std::env::FillError;
 use std::fs::File;
-use std::io::{IsTerminal, Write};
+use std::io::IsTerminal;
 use std::os::fd::AsRawFd;
 use std::process::ExitCode;
 use std::rt::Env;
@@ -25,7 +26,7 @@ const ROOT: &str = "/";
 fn main(rt: HostRuntime) -> ExitCode {
     let status = match occupy_standard(&rt) {
         Ok(_handles) => run_args(&rt),
-        Err(_) => Refusal::CannotRead { name: ROOT }.report(&mut rt.stderr()),
+        Err(error) => Refusal::unread(ROOT, &error).report(&mut rt.stderr()),
     };
     ExitCode::from(status)
 }
@@ -79,30 +80,15 @@ fn refuse_args(rt: &HostRuntime, error: &io::Error) -> Refusal<'static> {
 /// The first argument that isn't UTF-8, with escapes for bytes that aren't printable ASCII. If it is longer than the
 /// buffer, the result is a text that says so.
 fn faulty_argument(rt: &HostRuntime) -> io::Result<String> {
-    let mut text = String::new(rt.alloc());
     let mut buffer = [0u8; ARGUMENT];
     for number in 1..usize::MAX {
         match rt.arg(number, &mut buffer) {
             Ok(count) if str::from_utf8(&buffer[..count]).is_err() => {
-                push_escaped(&mut text, &buffer[..count])?;
-                return Ok(text);
+                return Ok(format!(in rt.alloc(); "{}", EscapedBytes(&buffer[..count]))?);
             }
             Err(FillError::NotPresent) => break,
             _ => {}
         }
     }
-    write!(text, "an argument of more than {ARGUMENT} bytes")?;
-    Ok(text)
-}
-
-/// Appends `bytes`. A byte that isn't printable ASCII is shown as an escape.
-fn push_escaped(text: &mut String, bytes: &[u8]) -> io::Result<()> {
-    for byte in bytes {
-        if *byte == b' ' || byte.is_ascii_graphic() {
-            text.push(*byte as char)?;
-        } else {
-            write!(text, "\\x{:02x}", *byte)?;
-        }
-    }
-    Ok(())
+    Ok(format!(in rt.alloc(); "an argument of more than {ARGUMENT} bytes")?)
 }

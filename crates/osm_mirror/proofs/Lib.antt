@@ -2,6 +2,7 @@ mod SourceLaws
 mod RunLaws
 mod KnownLaws
 mod ObjectLaws
+mod TallyLaws
 mod CheckLaws
 mod FleetLaws
 mod AgreeLaws

@@ -6,6 +6,7 @@ pub mod Given
 pub mod SelectedRun
 pub mod Command
 pub mod KnownInputs
+pub mod Tally
 pub mod Check
 pub mod Mirror
 pub mod Event

@@ -1,9 +1,13 @@
 //! Events of mirrors, and the replies of a fleet.
-ghost use Rattle.std.specs.Prelude.{IsTrue, ◌↔◌};
+ghost use Rattle.std.specs.Prelude.{IsTrue, ◌↔◌, ℕ, IfOk};
+ghost use Rattle.std.specs.List.{All};
 ghost use Rattle.osm_mirror.specs.Event.{IsWithin};
 
-use osm_files::{Fault, Format};
+use osm_files::{Fault, Format, Reason};
 use osm_model::Text;
+use std::alloc::{AllocError, Global};
+use std::fmt;
+use std::fmt::{Display, Formatter};
 
 /// An event of mirrors, which are numbered from 0. `F` is a file: its bytes in an [`Event`], its name in a [`Step`].
 #[derive(Clone, Copy, Debug, PartialEq, Eq)]
@@ -53,6 +57,33 @@ impl<F> MirrorEvent<F> {
     }
 }
 
+/// The events of `steps`. `files` has the bytes that each step takes. They name the mirrors that the steps name.
+pub fn events_of<'f>(
+    alloc: Global,
+    steps: &[Step],
+    files: &'f [Vec<u8>],
+) -> Result<Vec<Event<'f>>, AllocError>
+    ensures { IfOk result (λ events. (mirrors : ℕ) → All (IsWithin mirrors) steps.now
+        → All (IsWithin mirrors) events.items) }
+{
+    let mut events = Vec::new(alloc);
+    'steps: for (step, file) in steps.iter().zip(files) {
+        events.push(event_of(step, file.as_slice()))?;
+    }
+    Ok(events)
+}
+
+/// The event of `step`. `file` has the bytes that the step takes.
+fn event_of<'f>(step: &Step, file: &'f [u8]) -> Event<'f>
+    ensures { (mirrors : ℕ) → IsWithin mirrors step.now → IsWithin mirrors result }
+{
+    match *step {
+        Step::Take { mirror, .. } => Event::Take { mirror, file },
+        Step::Pass { from, to, format } => Event::Pass { from, to, format },
+        Step::Restart { mirror, format } => Event::Restart { mirror, format },
+    }
+}
+
 /// The reply to an event.
 #[derive(Clone, Copy, Debug, PartialEq, Eq)]
 pub enum Reply {
@@ -62,3 +93,32 @@ pub enum Reply {
     /// takes, and the output 1 is the file that a mirror writes.
     Refused(Fault),
 }
+
+/// The reply as a command prints it: `Taken`, or as `Refused 40 NoEnd`.
+impl Display for Reply {
+    fn fmt<W: fmt::Write>(&self, f: &mut Formatter<W>) -> fmt::Result {
+        match self {
+            Reply::Taken => write!(f, "Taken"),
+            Reply::Refused(fault) => match fault.reason {
+                Reason::Memory => write!(f, "Refused out of memory"),
+                reason => write!(f, "Refused {} {}", fault.place, reason.name()),
+            },
+        }
+    }
+}
+
+/// The replies to events: a line for each, with the number of the event from 1.
+#[derive(Clone, Copy, Debug)]
+pub struct Replies<'a>(pub &'a [Reply]);
+
+impl Display for Replies<'_> {
+    fn fmt<W: fmt::Write>(&self, f: &mut Formatter<W>) -> fmt::Result {
+        for (index, reply) in self.0.iter().enumerate() {
+            write!(f, "{} {reply}\n", index + 1)?;
+        }
+        Ok(())
+    }
+}
+
+#[cfg(test)]
+mod tests;

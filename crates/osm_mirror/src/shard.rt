@@ -27,6 +27,21 @@ impl Shard {
         }
         Some(Shard { number, count })
     }
+
+    /// The shard that `text` spells as `K/N`, the shard K of N. Each number is of decimal digits.
+    pub fn read(text: &str) -> Option<Shard> {
+        let (number, count) = text.split_once('/')?;
+        Shard::new(read_number(number)?, read_number(count)?)
+    }
+}
+
+/// The number that `text` spells in decimal digits.
+fn read_number(text: &str) -> Option<u64> {
+    if text.starts_with('+') {
+        None
+    } else {
+        text.parse().ok()
+    }
 }
 
 #[cfg(test)]

@@ -33,14 +33,15 @@ pub(super) fn command<'a>(alloc: Global) -> Made<'a> {
     Command::new(alloc, "osm_hist")
         .about("Merges, cuts and checks files of OpenStreetMap histories")
         .version(VERSION)
-        .override_usage("osm_hist [COMMAND]")
+        .override_usage("osm_hist [COMMAND]\n       osm_hist --explain <REASON>")
         .after_help(
             "Without a command, standard input is merged to standard output, as OPL.\n\n\
             Memory: files that are sorted are read one version at a time, however large they are.",
         )
         .no_binary_name(true)
-        .subcommand_required(true)
+        .args_conflicts_with_subcommands(true)
         .bin_name("osm_hist")?
+        .arg(arg!(in alloc; --explain <REASON> "Explains a reason of refusals, and what to do"))?
         .subcommand(merge_command(alloc)?)?
         .subcommand(apply_command(alloc)?)?
         .subcommand(time_filter_command(alloc)?)?
@@ -114,7 +115,14 @@ fn check_command<'a>(alloc: Global) -> Made<'a> {
             Example: osm_hist check download.o5m",
         );
     let files = "The files to be checked, in OPL, o5m or o5c; - is standard input";
-    with_input(alloc, command.arg(sorted_arg(alloc))?)?.arg(files_arg(alloc, files)?)
+    let summary =
+        "Reports on standard error, in a line for each file, its versions by kind and its times";
+    with_input(alloc, command.arg(sorted_arg(alloc))?)?
+        .arg(arg!(in alloc; --summary).help(summary))?
+        .arg(
+            arg!(in alloc; --json "Prints an object of JSON for each file, also for a refused one"),
+        )?
+        .arg(files_arg(alloc, files)?)
 }
 
 fn plan_command<'a>(alloc: Global) -> Made<'a> {
@@ -137,24 +145,18 @@ fn plan_command<'a>(alloc: Global) -> Made<'a> {
 
 /// Adds the options of a command that writes a file.
 fn with_output<'a>(alloc: Global, command: Command<'a>) -> Made<'a> {
-    let output =
+    let out =
         "The file to be written; - is standard output, and a pipe or a device is written as it is";
+    let output = arg!(in alloc; -o --output <OUT>).required(true).help(out);
     let shard =
         "Writes part K of N; all parts as OPL, in sequence, are the output; the files are sorted";
     let progress = "Reports on standard error, while it runs, how many megabytes were read";
     let summary = "Reports on standard error, in one line after success, what was read and written";
     let format = arg!(in alloc; -f --format <FORMAT> "Its format, whatever its name ends in");
+    let format = format.value_parser(FORMAT_NAMES.as_slice());
     command
-        .arg(
-            arg!(in alloc; -o --output <OUT>)
-                .required(true)
-                .help(output),
-        )?
-        .arg(
-            format
-                .value_parser(FORMAT_NAMES.as_slice())
-                .default_value("opl"),
-        )?
+        .arg(output)?
+        .arg(format.default_value("opl"))?
         .arg(arg!(in alloc; --shard <"K/N">).help(shard))?
         .arg(arg!(in alloc; --fsync "Puts the file on the disk before it gets its name"))?
         .arg(arg!(in alloc; --progress).help(progress))?

@@ -1,19 +1,40 @@
 //! Checks of files.
-use super::escape::EscapedOut;
 use super::files::input_name;
-use super::input::{InputBytes, NoCount, OpenInput, Watch};
+use super::input::{InputBytes, OpenInput, Watch};
 use super::refusal::Refusal;
-use super::request::{InputFiles, Request};
+use super::request::Request;
 use super::{hint, print};
-use osm_files::{Fault, FramedExtent, Input, ReadAt, Reason, SortedRun};
-use osm_mirror::{CheckReport, run_check, run_check_sorted};
+use osm_files::{Fault, FramedExtent, ReadAt, Reason, SortedRun};
+use osm_mirror::{
+    Checked, CheckedFile, CheckedJson, EscapedOut, RefusedJson, run_tally, run_tally_sorted,
+};
 use std::alloc::{AllocError, Global};
 use std::cell::Cell;
 use std::io::{IsTerminal, Read, Write};
 
-/// Prints for each file its format, the numbers of its versions and objects, and whether it is sorted. After a refusal
-/// the check continues with the next file, unless standard output fails. Returns the status of
-/// the last refusal, or 0.
+/// What is noted of the reads of a file.
+#[derive(Drop)]
+struct Reads {
+    /// The number of bytes that were read.
+    bytes: Cell<u64>,
+    /// The number of the file, if a read failed.
+    failed: Cell<Option<usize>>,
+}
+
+impl Watch for &Reads {
+    fn count(&self, count: usize) {
+        self.bytes
+            .set(self.bytes.get().saturating_add(count as u64));
+    }
+
+    fn failed(&self) -> &Cell<Option<usize>> {
+        &self.failed
+    }
+}
+
+/// Checks each file, and prints a line about it: its report, or an object of JSON. With `--summary` standard error has
+/// a line, too. After a refusal the check continues with the next file, unless its line can't be printed. Returns the
+/// status of the last refusal, or 0.
 pub(super) fn check_files<I: Read + Drop, O: Write + IsTerminal, E: Write + IsTerminal>(
     rt: &HostRuntime,
     request: &Request<'_>,
@@ -22,139 +43,128 @@ pub(super) fn check_files<I: Read + Drop, O: Write + IsTerminal, E: Write + IsTe
     err: &mut E,
     hints: bool,
 ) -> u8 {
-    let files = &request.files;
     let mut status = 0;
-    for name in &files.names {
-        let outcome = match report_of(rt, files, *name, request.sorted, &mut input) {
-            Ok(report) => print_report(rt.alloc(), files, *name, &report, out),
-            Err(refusal) => Err(refusal),
+    for arg in &request.files.names {
+        let reads = Reads {
+            bytes: Cell::new(0),
+            failed: Cell::new(None),
         };
-        if let Err(refusal) = outcome {
-            status = hint::report(rt, &refusal, err, hints);
-            if matches!(refusal, Refusal::StandardOutput) {
-                break;
-            }
+        let outcome = check_file(rt, request, *arg, &mut input, &reads);
+        if let Err(refusal) = &outcome {
+            status = hint::report(rt, refusal, err, hints);
+        }
+        if let Err(refusal) = print_outcome(rt.alloc(), request, *arg, &outcome, out) {
+            return hint::report(rt, &refusal, err, hints);
+        }
+        if let Ok(file) = &outcome
+            && request.summary
+        {
+            // If standard error fails, nothing can report it.
+            let _ = writeln!(err, "{file}").and_then(|()| err.flush());
         }
     }
     status
 }
 
-/// Prints the report on a file. With several files the line begins with the file's name, whose control characters are
-/// escaped on a terminal.
-fn print_report<'a, O: Write + IsTerminal>(
+/// Prints the line about the file that `arg` names. On a terminal control characters of its name are escaped.
+fn print_outcome<'a, O: Write + IsTerminal>(
     alloc: Global,
-    files: &InputFiles<'a>,
-    arg: &'a str,
-    report: &CheckReport,
+    request: &Request<'_>,
+    arg: &str,
+    outcome: &Result<CheckedFile<'_>, Refusal<'_>>,
     out: &mut O,
 ) -> Result<(), Refusal<'a>> {
-    let order = if report.sorted { "sorted" } else { "unsorted" };
-    let format = report.format.name();
-    let (versions, objects) = (report.versions, report.objects);
-    let (name, mark) = if files.names.len() > 1 {
-        (input_name(arg), ": ")
-    } else {
-        ("", "")
-    };
-    let line = format!(in alloc;
-        "{name}{mark}{format}: {versions} versions, {objects} objects, {order}\n"
-    )?;
-    if out.is_terminal() {
-        print(&mut EscapedOut(out), &line)
-    } else {
-        print(out, &line)
+    match line_of(alloc, request, arg, outcome)? {
+        Some(line) if out.is_terminal() => print(&mut EscapedOut(out), &line),
+        Some(line) => print(out, &line),
+        None => Ok(()),
     }
 }
 
-/// Checks the file that `arg` names.
-fn report_of<'a, I: Read + Drop>(
-    rt: &HostRuntime,
-    files: &InputFiles<'a>,
-    arg: &'a str,
-    sorted: bool,
-    input: &mut Option<I>,
-) -> Result<CheckReport, Refusal<'a>> {
-    let (failed, meter) = (Cell::new(false), NoCount);
-    report_watched(rt, files, arg, sorted, input, &Watch { failed, meter })
+/// The line about a file. With `--json` it is an object. Otherwise a refused file has none, and the line begins with
+/// the file's name if there are several.
+fn line_of(
+    alloc: Global,
+    request: &Request<'_>,
+    arg: &str,
+    outcome: &Result<CheckedFile<'_>, Refusal<'_>>,
+) -> Result<Option<String>, AllocError> {
+    let name = input_name(arg);
+    let line = match outcome {
+        Ok(file) if request.json => format!(in alloc; "{}\n", CheckedJson(*file)),
+        Ok(file) if request.files.names.len() > 1 => {
+            format!(in alloc; "{name}: {}\n", file.checked.report)
+        }
+        Ok(file) => format!(in alloc; "{}\n", file.checked.report),
+        Err(refusal) if request.json => {
+            let (place, reason) = refusal.cause();
+            format!(in alloc;
+                "{}\n",
+                RefusedJson {
+                    name,
+                    place,
+                    reason
+                }
+            )
+        }
+        Err(_) => return Ok(None),
+    };
+    Ok(Some(line?))
 }
 
-/// Does the same. The reads of the file are noted in `watch`.
-fn report_watched<'a, I: Read + Drop>(
+/// Checks the file that `arg` names. Its reads are noted in `reads`.
+fn check_file<'a, I: Read + Drop>(
     rt: &HostRuntime,
-    files: &InputFiles<'a>,
+    request: &Request<'a>,
     arg: &'a str,
-    sorted: bool,
     input: &mut Option<I>,
-    watch: &Watch<NoCount>,
-) -> Result<CheckReport, Refusal<'a>> {
+    reads: &Reads,
+) -> Result<CheckedFile<'a>, Refusal<'a>> {
     let mut inputs = Vec::new(rt.alloc());
-    let outcome = match OpenInput::open(rt, files, arg, input, watch) {
-        Ok(input) => match inputs.push(input) {
-            Ok(()) => check_first(rt.alloc(), inputs.as_slice(), sorted),
-            Err(error) => Err(error.into()),
-        },
-        Err(refusal) => Err(refusal),
+    inputs.push(OpenInput::open(rt, &request.files, 0, arg, input, reads)?)?;
+    check_first(rt.alloc(), inputs.as_slice(), request.sorted, reads)
+}
+
+/// Checks the first one of open inputs. It has to be sorted if `sorted` is set. A stream is held in memory otherwise.
+fn check_first<'a, I: Read + Drop, M: Watch>(
+    alloc: Global,
+    inputs: &[OpenInput<'a, I, M>],
+    sorted: bool,
+    reads: &Reads,
+) -> Result<CheckedFile<'a>, Refusal<'a>> {
+    let Some(input) = inputs.first() else {
+        return Err(Refusal::Memory(AllocError));
     };
-    drop(inputs);
-    outcome
-}
-
-/// Checks the first one of open inputs. It has to be sorted if `sorted` is set.
-fn check_first<'a, I: Read + Drop>(
-    alloc: Global,
-    inputs: &[OpenInput<'a, '_, I, NoCount>],
-    sorted: bool,
-) -> Result<CheckReport, Refusal<'a>> {
-    match inputs.first() {
-        Some(input) => check_input(alloc, input, sorted),
-        None => Err(Refusal::Memory(AllocError)),
-    }
-}
-
-/// Checks an open input. It has to be sorted if `sorted` is set.
-fn check_input<'a, I: Read + Drop>(
-    alloc: Global,
-    input: &OpenInput<'a, '_, I, NoCount>,
-    sorted: bool,
-) -> Result<CheckReport, Refusal<'a>> {
     let checked = match &input.bytes {
-        InputBytes::Regular(file, stamp) => check_file(alloc, file, stamp.size, sorted),
+        InputBytes::Regular(file, stamp) => check_regular(alloc, file, stamp.size, sorted),
         InputBytes::Stream(stream) => match stream.take() {
-            Some(stream) => check_stream(alloc, sorted, stream),
-            None => Err(Fault::at(0, 0, Reason::Failed)),
+            Some(stream) if sorted => run_tally_sorted(alloc, stream),
+            Some(stream) => run_tally(alloc, stream),
+            None => Err(Fault::failed(0)),
         },
     };
     input.refuse_changed()?;
     match checked {
-        Ok(report) => Ok(report),
+        Ok(checked) => Ok(CheckedFile {
+            name: input.name,
+            bytes: input.size().unwrap_or(reads.bytes.get()),
+            checked,
+        }),
         Err(fault) => Err(input.refusal(alloc, &fault)),
     }
 }
 
-/// Checks a stream. It is held in memory unless `sorted` is set.
-fn check_stream<R: Input + Drop>(
-    alloc: Global,
-    sorted: bool,
-    stream: R,
-) -> Result<CheckReport, Fault> {
-    if sorted {
-        run_check_sorted(alloc, stream)
-    } else {
-        run_check(alloc, stream)
-    }
-}
-
 /// Checks a file of `size` bytes. It is held in memory only if it isn't sorted.
-fn check_file<F: ReadAt>(
+fn check_regular<F: ReadAt>(
     alloc: Global,
     file: &F,
     size: u64,
     sorted: bool,
-) -> Result<CheckReport, Fault> {
+) -> Result<Checked, Fault> {
     let whole = SortedRun::whole();
-    match run_check_sorted(alloc, FramedExtent::of_run(file, size, whole)) {
+    match run_tally_sorted(alloc, FramedExtent::of_run(file, size, whole)) {
         Err(fault) if fault.reason == Reason::Unsorted && !sorted => {
-            run_check(alloc, FramedExtent::of_run(file, size, whole))
+            run_tally(alloc, FramedExtent::of_run(file, size, whole))
         }
         outcome => outcome,
     }

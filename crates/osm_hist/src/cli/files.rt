@@ -1,49 +1,13 @@
-//! Files that are opened to be read, and reads and writes that are tried again.
-ghost use Rattle.std.specs.Prelude.{◌≡◌, ◌<◌, ◌≤◌, length, take, IfOk, OnErr};
-ghost use Rattle.std.specs.Counts.{IsPrefixLen};
-ghost use Rattle.std.specs.Io.KnownBytes.{Appends, Consumes, IsAtEnd, Keeps};
-
+//! Files that are opened to be read.
 use super::refusal::Refusal;
 use super::target::STANDARD;
 use std::alloc::AllocError;
 use std::fs::{File, Metadata};
-use std::io;
-use std::io::{ErrorKind, Read, Write};
+use std::io::{ErrorKind, Read};
 use std::time::SystemTime;
 
 /// The name of standard input in the line of a refusal.
 pub(super) const STANDARD_INPUT: &str = "standard input";
-
-/// Reads bytes into `buffer`, as `Read::read` does. A read that a signal interrupts is tried again.
-pub(super) fn read_retried<R: Read>(reader: &mut R, buffer: &mut [u8]) -> io::Result<usize>
-    ensures bound { IfOk result (λ n. IsPrefixLen n buffer.new) }
-    ensures given { IfOk result (λ n. Consumes (R.remaining reader.old) (R.remaining reader.new) (take n buffer.new)) }
-    ensures end { IfOk result (λ n. n ≡ 0 → 0 < length buffer.old → IsAtEnd (R.remaining reader.new)) }
-    ensures refused { OnErr result (Keeps (R.remaining reader.old) (R.remaining reader.new)) }
-{
-    'tries: for _ in 0..u64::MAX {
-        match reader.read(buffer) {
-            Err(error) if error.kind() == ErrorKind::Interrupted => {}
-            outcome => return outcome,
-        }
-    }
-    Err(io::Error::from(ErrorKind::Interrupted))
-}
-
-/// Writes a front of `bytes`, as `Write::write` does. A write that a signal interrupts is tried again.
-pub(super) fn write_retried<W: Write>(writer: &mut W, bytes: &[u8]) -> io::Result<usize>
-    ensures bound { IfOk result (λ n. n ≤ length bytes.now) }
-    ensures taken { IfOk result (λ n. Appends (W.contents writer.old) (W.contents writer.new) (take n bytes.now)) }
-    ensures refused { OnErr result (Keeps (W.contents writer.old) (W.contents writer.new)) }
-{
-    'tries: for _ in 0..u64::MAX {
-        match writer.write(bytes) {
-            Err(error) if error.kind() == ErrorKind::Interrupted => {}
-            outcome => return outcome,
-        }
-    }
-    Err(io::Error::from(ErrorKind::Interrupted))
-}
 
 /// The size of a regular file, and the time of its last modification.
 #[derive(Clone, Copy, PartialEq, Eq)]
@@ -74,7 +38,7 @@ impl Stamp {
         match Stamp::of_file(file) {
             Some(stamp) if stamp == self => Ok(()),
             Some(_) => Err(Refusal::Changed { name }),
-            None => Err(Refusal::CannotRead { name }),
+            None => Err(Refusal::CannotRead { name, code: None }),
         }
     }
 }
@@ -86,7 +50,7 @@ pub(super) fn input_name<'a>(arg: &'a str) -> &'a str {
 
 /// Opens the file `name` to be read.
 pub(super) fn open<'a>(rt: &HostRuntime, name: &'a str) -> Result<File, Refusal<'a>> {
-    File::open(rt, name).map_err(|_| Refusal::CannotRead { name })
+    File::open(rt, name).map_err(|error| Refusal::unread(name, &error))
 }
 
 /// Reads an open file, whose name is `name`, or the rest of a pipe or a device. A regular file that changes while it is
@@ -114,6 +78,6 @@ pub(super) fn read_stream<'a, S: Read>(
     match stream.read_to_end(&mut bytes) {
         Ok(_) => Ok(bytes),
         Err(error) if error.kind() == ErrorKind::OutOfMemory => Err(Refusal::Memory(AllocError)),
-        Err(_) => Err(Refusal::CannotRead { name }),
+        Err(error) => Err(Refusal::unread(name, &error)),
     }
 }

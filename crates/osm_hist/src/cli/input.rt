@@ -1,8 +1,7 @@
-//! Inputs of commands. Their bytes are counted and their errors are noted. They may refuse a file whose last line has
-//! no end or isn't the end mark.
+//! Inputs of commands. Their reads are watched. A file whose last line has no end or isn't the end mark may be refused.
 ghost use Rattle.std.specs.Prelude.{◌≡◌};
 
-use super::files::{STANDARD_INPUT, Stamp, open, read_retried};
+use super::files::{STANDARD_INPUT, Stamp, open};
 use super::part::FileId;
 use super::refusal::Refusal;
 use super::request::{FileEnd, InputFiles};
@@ -11,59 +10,47 @@ use either::{Either, Left, Right};
 use osm_files::{
     Broken, EndMarked, Fault, FromFile, FromRead, ReadAt, Reason, WholeFile, WholeLines,
 };
+use osm_mirror::read_retried;
 use std::alloc::Global;
 use std::cell::Cell;
 use std::fs::File;
 use std::io;
 use std::io::Read;
 
-/// What is noted of the reads of an input.
-#[derive(Drop)]
-pub(super) struct Watch<M> {
-    /// Whether one failed.
-    pub(super) failed: Cell<bool>,
-    /// The meter that counts the bytes.
-    pub(super) meter: M,
-}
-
-/// Counts the bytes that a command reads.
-pub(super) trait CountBytes {
+/// Watches the reads of the inputs of a command, which are numbered from 0.
+pub(super) trait Watch: Copy {
     /// Adds `count` to the bytes that were read.
     fn count(&self, count: usize);
+
+    /// The number of the input whose read failed last, if one failed.
+    fn failed(&self) -> &Cell<Option<usize>>;
 }
 
-/// Counts nothing.
-#[derive(Clone, Copy, Debug)]
-pub(super) struct NoCount;
-
-impl CountBytes for NoCount {
-    fn count(&self, _count: usize) {}
-}
-
-/// A file or a stream whose bytes are counted, and whose errors are noted. A read of a stream that a signal interrupts
-/// is tried again.
+/// A file or a stream whose reads are watched. A read of a stream that a signal interrupts is tried again.
 #[derive(Drop)]
-pub(super) struct Metered<'n, F, M> {
+pub(super) struct Metered<F, M> {
     /// The file or the stream.
     inner: F,
-    /// What is noted.
-    watch: &'n Watch<M>,
+    /// The number of the input.
+    number: usize,
+    /// What watches its reads.
+    watch: M,
 }
 
-impl<F, M: CountBytes> Metered<'_, F, M> {
-    /// Counts the bytes of a read, or notes its error.
+impl<F, M: Watch> Metered<F, M> {
+    /// Counts the bytes of a read, or notes that it failed.
     fn note<X>(&self, outcome: Result<usize, X>) -> Result<usize, X>
         ensures { result ≡ outcome }
     {
         match &outcome {
-            Ok(count) => self.watch.meter.count(*count),
-            Err(_) => self.watch.failed.set(true),
+            Ok(count) => self.watch.count(*count),
+            Err(_) => self.watch.failed().set(Some(self.number)),
         }
         outcome
     }
 }
 
-impl<F: Read, M: CountBytes> Read for Metered<'_, F, M> {
+impl<F: Read, M: Watch> Read for Metered<F, M> {
     ghost remaining = { λ s. F.remaining s.inner };
 
     fn read(&mut self, buffer: &mut [u8]) -> io::Result<usize> {
@@ -72,7 +59,7 @@ impl<F: Read, M: CountBytes> Read for Metered<'_, F, M> {
     }
 }
 
-impl<F: ReadAt, M: CountBytes> ReadAt for Metered<'_, F, M> {
+impl<F: ReadAt, M: Watch> ReadAt for Metered<F, M> {
     ghost bytes = { λ s. F.bytes s.inner };
 
     ghost fails = { λ s. F.fails s.inner };
@@ -88,54 +75,60 @@ impl<F: ReadAt, M: CountBytes> ReadAt for Metered<'_, F, M> {
 }
 
 /// A regular file of a command.
-pub(super) type RegularInput<'n, M: CountBytes> = WholeFile<Metered<'n, FromFile<File>, M>>;
+pub(super) type RegularInput<M: Watch> = WholeFile<Metered<FromFile<File>, M>>;
 
 /// A pipe, a device, an empty file or standard input, as a stream of a command. A file of `/proc` has bytes, though its
 /// size is 0.
-pub(super) type StreamInput<'n, I, M> = WholeLines<
-    EndMarked<FromRead<Metered<'n, Either<File, I>, M>>>,
->;
+pub(super) type StreamInput<I, M> = WholeLines<EndMarked<FromRead<Metered<Either<File, I>, M>>>>;
 
 /// The bytes of an input.
 #[derive(Drop)]
-pub(super) enum InputBytes<'n, I: Read + Drop, M: CountBytes> {
+pub(super) enum InputBytes<I: Read + Drop, M: Watch> {
     /// A regular file, with its stamp of the moment when it was opened.
-    Regular(RegularInput<'n, M>, Stamp),
+    Regular(RegularInput<M>, Stamp),
     /// A stream; none after a run has taken it.
-    Stream(Cell<Option<StreamInput<'n, I, M>>>),
+    Stream(Cell<Option<StreamInput<I, M>>>),
 }
 
-impl<'n, I: Read + Drop, M: CountBytes> InputBytes<'n, I, M> {
-    /// The bytes of a file, which has this stamp if it is a regular one. An empty file is a stream, unless
+impl<I: Read + Drop, M: Watch> InputBytes<I, M> {
+    /// The bytes of the file `number`, which has this stamp if it is a regular one. An empty file is a stream, unless
     /// `files` keeps it.
     fn of_file(
         file: File,
         stamp: Option<Stamp>,
         files: &InputFiles<'_>,
-        watch: &'n Watch<M>,
-    ) -> Result<InputBytes<'n, I, M>, Fault> {
+        number: usize,
+        watch: M,
+    ) -> Result<InputBytes<I, M>, Fault> {
         let end = files.end.of_file(stamp.is_some());
         let Some(stamp) = stamp.filter(|stamp| stamp.size > 0 || files.keeps_empty) else {
-            return Ok(InputBytes::of_stream(Left(file), end, watch));
+            return Ok(InputBytes::of_stream(Left(file), end, number, watch));
         };
         let inner = FromFile::new(file, stamp.size);
-        let metered = Metered { inner, watch };
-        match end {
-            FileEnd::Any => Ok(InputBytes::Regular(WholeFile::any_end(metered), stamp)),
-            FileEnd::LineFeed | FileEnd::Mark => match WholeFile::new(metered) {
-                Ok(file) => Ok(InputBytes::Regular(file, stamp)),
-                Err(Broken) => Err(Fault::at(0, 0, Reason::ReadFault)),
-            },
+        let metered = Metered {
+            inner,
+            number,
+            watch,
+        };
+        if end == FileEnd::Any {
+            return Ok(InputBytes::Regular(WholeFile::any_end(metered), stamp));
         }
+        let file = WholeFile::new(metered).map_err(|_| Fault::at(0, 0, Reason::ReadFault))?;
+        Ok(InputBytes::Regular(file, stamp))
     }
 
-    /// The bytes of a stream, which has to end as `end` requires.
+    /// The bytes of the stream `number`, which has to end as `end` requires.
     fn of_stream(
         inner: Either<File, I>,
         end: FileEnd,
-        watch: &'n Watch<M>,
-    ) -> InputBytes<'n, I, M> {
-        let input = FromRead::new(Metered { inner, watch });
+        number: usize,
+        watch: M,
+    ) -> InputBytes<I, M> {
+        let input = FromRead::new(Metered {
+            inner,
+            number,
+            watch,
+        });
         InputBytes::Stream(Cell::new(Some(match end {
             FileEnd::Any => WholeLines::any_end(EndMarked::any_end(input)),
             FileEnd::LineFeed => WholeLines::new(EndMarked::any_end(input)),
@@ -146,72 +139,87 @@ impl<'n, I: Read + Drop, M: CountBytes> InputBytes<'n, I, M> {
 
 /// An open input of a command.
 #[derive(Drop)]
-pub(super) struct OpenInput<'a, 'n, I: Read + Drop, M: CountBytes> {
+pub(super) struct OpenInput<'a, I: Read + Drop, M: Watch> {
     /// Its name in the line of a fault.
     pub(super) name: &'a str,
     /// The identity of the file, if it is known.
     pub(super) id: Option<FileId>,
     /// Its bytes.
-    pub(super) bytes: InputBytes<'n, I, M>,
-    /// What is noted of its reads.
-    watch: &'n Watch<M>,
+    pub(super) bytes: InputBytes<I, M>,
+    /// Its number.
+    number: usize,
+    /// What watches its reads.
+    watch: M,
 }
 
-impl<'a, 'n, I: Read + Drop, M: CountBytes> OpenInput<'a, 'n, I, M> {
-    /// Opens the file that `arg` names, or standard input, which is taken from `input`. `files` has the end that it
-    /// must have. Its reads are noted in `watch`.
+impl<'a, I: Read + Drop, M: Watch> OpenInput<'a, I, M> {
+    /// Opens the file that `arg` names, or standard input, which is taken from `input`, as the input `number`. `files`
+    /// has the end that it must have.
     pub(super) fn open(
         rt: &HostRuntime,
         files: &InputFiles<'a>,
+        number: usize,
         arg: &'a str,
         input: &mut Option<I>,
-        watch: &'n Watch<M>,
-    ) -> Result<OpenInput<'a, 'n, I, M>, Refusal<'a>> {
+        watch: M,
+    ) -> Result<OpenInput<'a, I, M>, Refusal<'a>> {
         let (name, id, bytes) = if arg != STANDARD {
             let file = open(rt, arg)?;
             // The system is asked once: a change after this moment is noticed.
             let metadata = file.metadata().ok();
             let id = metadata.as_ref().map(|metadata| FileId::of(metadata));
             let stamp = metadata.as_ref().and_then(|metadata| Stamp::of(metadata));
-            match InputBytes::of_file(file, stamp, files, watch) {
-                Ok(bytes) => (arg, id, bytes),
-                Err(fault) => return Err(Refusal::of_fault(rt.alloc(), fault, arg, None)),
-            }
+            let bytes = InputBytes::of_file(file, stamp, files, number, watch).map_err(
+                |fault| Refusal::of_fault(rt.alloc(), fault, arg, None),
+            )?;
+            (arg, id, bytes)
         } else if let Some(stream) = input.take() {
-            let bytes = InputBytes::of_stream(Right(stream), files.end, watch);
+            let bytes = InputBytes::of_stream(Right(stream), files.end, number, watch);
             (STANDARD_INPUT, FileId::of_input(rt), bytes)
         } else {
-            let name = STANDARD_INPUT;
-            return Err(Refusal::CannotRead { name });
+            let (name, code) = (STANDARD_INPUT, None);
+            return Err(Refusal::CannotRead { name, code });
         };
         Ok(OpenInput {
             name,
             id,
             bytes,
+            number,
             watch,
         })
     }
 
     /// The file of a regular input.
-    pub(super) fn file(&self) -> Option<(&FromFile<File>, Stamp)> {
+    pub(super) fn regular(&self) -> Option<&RegularInput<M>> {
         match &self.bytes {
-            InputBytes::Regular(file, stamp) => Some((&file.get_ref().inner, *stamp)),
+            InputBytes::Regular(file, _) => Some(file),
+            InputBytes::Stream(_) => None,
+        }
+    }
+
+    /// The size of a regular input, in bytes.
+    pub(super) fn size(&self) -> Option<u64> {
+        match &self.bytes {
+            InputBytes::Regular(_, stamp) => Some(stamp.size),
             InputBytes::Stream(_) => None,
         }
     }
 
     /// Refuses a regular file that has changed since it was opened.
     pub(super) fn refuse_changed(&self) -> Result<(), Refusal<'a>> {
-        match self.file() {
-            Some((file, stamp)) => stamp.refuse_changed(file.get_ref(), self.name),
-            None => Ok(()),
+        match &self.bytes {
+            InputBytes::Regular(file, stamp) => {
+                stamp.refuse_changed(file.get_ref().inner.get_ref(), self.name)
+            }
+            InputBytes::Stream(_) => Ok(()),
         }
     }
 
     /// The refusal of this input for `fault`. It is `NoEnd` instead of `ReadFault` if no read of the system failed:
     /// then the last line has no end, or isn't the end mark.
     pub(super) fn refusal(&self, alloc: Global, fault: &Fault) -> Refusal<'a> {
-        let lacks_end = fault.reason == Reason::ReadFault && !self.watch.failed.get();
+        let has_failed = self.watch.failed().get() == Some(self.number);
+        let lacks_end = fault.reason == Reason::ReadFault && !has_failed;
         let (place, reason) = match &self.bytes {
             InputBytes::Regular(file, stamp) if lacks_end && file.lacks_end() => {
                 (stamp.size, Reason::NoEnd)

@@ -69,12 +69,10 @@ pub(super) fn folder_of(name: &str) -> &str {
 
 /// The identity of the regular file `name`, or of the one that a link of that name leads to.
 pub(super) fn id_of_regular(rt: &HostRuntime, name: &str) -> Option<FileId> {
-    let metadata = fs::metadata(rt, name).ok()?;
-    if metadata.is_file() {
-        Some(FileId::of(&metadata))
-    } else {
-        None
-    }
+    let metadata = fs::metadata(rt, name)
+        .ok()
+        .filter(|metadata| metadata.is_file());
+    metadata.map(|metadata| FileId::of(&metadata))
 }
 
 /// The name of an OUT.part that this run has locked.
@@ -167,11 +165,7 @@ fn attempts(
 /// exists, since OUT may be private.
 fn create(rt: &HostRuntime, name: &str, output: &str) -> io::Result<Option<(File, FileId)>> {
     let old = existing(rt, output)?;
-    let mode = if old.is_some() {
-        PRIVATE_MODE
-    } else {
-        NEW_MODE
-    };
+    let mode = old.as_ref().map_or(NEW_MODE, |_| PRIVATE_MODE);
     let mut options = File::options();
     options.write(true).create_new(true).mode(mode);
     match options.open(rt, name) {

@@ -151,14 +151,7 @@ fn event_of<'f>(step: &Step, file: &'f [u8]) -> Event<'f>
 fn lines_of(alloc: Global, replies: &[Reply]) -> Result<String, AllocError> {
     let mut lines = String::new(alloc);
     for (index, reply) in replies.iter().enumerate() {
-        let number = index + 1;
-        match reply {
-            Reply::Taken => writeln!(lines, "{number} Taken")?,
-            Reply::Refused(fault) => match fault.reason {
-                Reason::Memory => writeln!(lines, "{number} Refused out of memory")?,
-                reason => writeln!(lines, "{number} Refused {} {}", fault.place, reason.name())?,
-            },
-        }
+        writeln!(lines, "{} {reply}", index + 1)?;
     }
     Ok(lines)
 }
@@ -174,10 +167,9 @@ fn write_files<'p, O: Write>(
 {
     'writes: for write in writes {
         let name = write.file.as_str();
-        match fleet.mirror(write.mirror).write(write.format) {
-            Ok(bytes) => make_file(rt, name, bytes.as_slice(), &mut *out)?,
-            Err(fault) => return Err(Refusal::of_fault(rt.alloc(), fault, name, None)),
-        }
+        let written = fleet.mirror(write.mirror).write(write.format);
+        let bytes = written.map_err(|fault| Refusal::of_fault(rt.alloc(), fault, name, None))?;
+        make_file(rt, name, bytes.as_slice(), &mut *out)?;
     }
     Ok(())
 }
@@ -190,14 +182,13 @@ fn make_file<'p, O: Write + Drop>(
     out: O,
 ) -> Result<(), Refusal<'p>> {
     let target = Target::of_name(rt, name);
-    let mut destination = match target.open(rt, &[], out) {
-        Ok(destination) => destination,
-        Err(refusal) => return Err(refusal),
-    };
-    let written = match write_bytes(bytes, &mut destination) {
-        Ok(()) => Ok(()),
-        Err(fault) => Err(Refusal::of_fault(rt.alloc(), fault, target.name(), None)),
-    };
+    let mut destination = target.open(rt, &[], out)?;
+    let written = write_bytes(bytes, &mut destination).map_err(|fault| Refusal::of_fault(
+        rt.alloc(),
+        fault,
+        target.name(),
+        None,
+    ));
     destination.finish(rt, written, false)
 }
 
@@ -207,8 +198,6 @@ fn write_bytes<W: Write + Drop>(bytes: &[u8], writer: W) -> Result<(), Fault> {
     if !bytes.is_empty() {
         write_all(&mut output, 0, 0, bytes)?;
     }
-    match output.flush() {
-        Ok(()) => Ok(()),
-        Err(_) => Err(Fault::at(0, bytes.len() as u64, Reason::WriteFault)),
-    }
+    let flushed = output.flush();
+    flushed.map_err(|_| Fault::at(0, bytes.len() as u64, Reason::WriteFault))
 }

@@ -1,8 +1,6 @@
 //! Reports on standard error during a run and after it.
-use super::escape::Escaped;
-use super::input::CountBytes;
-use super::request::FileRun;
-use osm_mirror::{Counts, Kind, Progress, Relation, Version};
+use super::input::Watch;
+use osm_mirror::Counts;
 use std::cell::{Cell, RefCell};
 use std::fmt::Display;
 use std::io::{IsTerminal, Write};
@@ -20,21 +18,6 @@ const CLEAR_LINE: &str = "\r\x1b[K";
 /// The bytes of a megabyte, MB.
 const MEGABYTE: u64 = 1_000_000;
 
-/// The work that a run has done up to a moment.
-#[derive(Clone, Copy, Debug, Default)]
-struct Done {
-    /// The number of bytes that the run read.
-    bytes: u64,
-    /// The numbers of nodes, ways and relations that the run wrote.
-    nodes: u64,
-    ways: u64,
-    relations: u64,
-    /// The number of keys for which the run read several versions with different data.
-    shared_keys: u64,
-    /// Whether the key read last is one of these.
-    is_shared: bool,
-}
-
 /// Reports during a run. On a terminal a report overwrites the one before, at most once in half a second. Elsewhere
 /// each report is a line, at most once a minute.
 #[derive(Drop)]
@@ -46,9 +29,12 @@ pub(super) struct Meter<'a, C, E> {
     is_terminal: bool,
     start: Duration,
     last: Cell<Duration>,
-    done: Cell<Done>,
+    /// The number of bytes that the run read.
+    bytes: Cell<u64>,
+    /// The number of the input whose read failed last.
+    failed: Cell<Option<usize>>,
     /// The size of all input files in bytes, if it is known.
-    size: Cell<Option<u64>>,
+    pub(super) size: Cell<Option<u64>>,
 }
 
 impl<'a, C: Clock, E: Write + IsTerminal> Meter<'a, C, E> {
@@ -63,14 +49,10 @@ impl<'a, C: Clock, E: Write + IsTerminal> Meter<'a, C, E> {
             is_terminal,
             start,
             last: Cell::new(start),
-            done: Cell::new(Done::default()),
+            bytes: Cell::new(0),
+            failed: Cell::new(None),
             size: Cell::new(None),
         }
-    }
-
-    /// Sets the size of all input files, in bytes, if it is known.
-    pub(super) fn set_size(&self, size: Option<u64>) {
-        self.size.set(size);
     }
 
     /// Writes `text` between `before` and `after` to standard error.
@@ -91,75 +73,29 @@ impl<'a, C: Clock, E: Write + IsTerminal> Meter<'a, C, E> {
             self.write(CLEAR_LINE, &"", "");
         }
         if let Some(Counts { read, written, .. }) = counts {
-            self.write(
-                "",
-                &format_args!("{read} versions read, {written} written"),
-                "\n",
-            );
+            self.print(&format_args!("{read} versions read, {written} written"));
         }
     }
 
-    /// Prints a line on the run `run` over `inputs` files, which wrote `output`.
-    pub(super) fn summarize(&self, run: &FileRun<'_>, inputs: usize, counts: Counts, output: &str) {
-        let (command, output) = (run.command.name(), Escaped(output));
-        let Counts { read, written, .. } = counts;
-        let done = self.done.get();
-        let time = now(self.clock).saturating_sub(self.start).as_millis();
-        let (seconds, tenths) = (time / 1000, time / 100 % 10);
-        let kinds = format_args!(
-            "{} nodes, {} ways, {} relations",
-            done.nodes, done.ways, done.relations
-        );
-        let line = format_args!(
-            "osm_hist: {command}: {inputs} inputs, {read} versions read, {written} written ({kinds}), {} keys with \
-            several data, {seconds}.{tenths} s, to {output}",
-            done.shared_keys
-        );
-        self.write("", &line, "\n");
+    /// Prints the line `line`.
+    pub(super) fn print<T: Display>(&self, line: &T) {
+        self.write("", line, "\n");
+    }
+
+    /// The time since the run began, in milliseconds.
+    pub(super) fn milliseconds(&self) -> u128 {
+        now(self.clock).saturating_sub(self.start).as_millis()
     }
 }
 
-impl<'m, 'a, C, E> Progress for &'m Meter<'a, C, E> {
-    fn begin(&mut self) {
-        self.done.set(Done::default());
-    }
-
-    #[inline(always)]
-    fn read(&mut self, _version: &Version, relation: Relation) {
-        let mut done = self.done.get();
-        if relation == Relation::OtherData && !done.is_shared {
-            done.shared_keys = done.shared_keys.saturating_add(1);
-        }
-        match relation {
-            Relation::OtherKey => done.is_shared = false,
-            Relation::OtherData => done.is_shared = true,
-            Relation::Dropped => {}
-        }
-        self.done.set(done);
-    }
-
-    #[inline(always)]
-    fn written(&mut self, version: &Version) {
-        let mut done = self.done.get();
-        let count = match version.kind() {
-            Kind::Node => &mut done.nodes,
-            Kind::Way => &mut done.ways,
-            Kind::Relation => &mut done.relations,
-        };
-        *count = count.saturating_add(1);
-        self.done.set(done);
-    }
-}
-
-impl<'m, 'a, C: Clock, E: Write + IsTerminal> CountBytes for &'m Meter<'a, C, E> {
+impl<'m, 'a, C: Clock, E: Write + IsTerminal> Watch for &'m Meter<'a, C, E> {
     /// Adds `count` to the bytes that the run read, and reports if the interval has passed.
     fn count(&self, count: usize) {
         if !self.is_wanted {
             return;
         }
-        let done = self.done.get();
-        let bytes = done.bytes.saturating_add(count as u64);
-        self.done.set(Done { bytes, ..done });
+        let bytes = self.bytes.get().saturating_add(count as u64);
+        self.bytes.set(bytes);
         let now = now(self.clock);
         let (before, after, interval) = if self.is_terminal {
             (CLEAR_LINE, "", INTERVAL)
@@ -180,6 +116,10 @@ impl<'m, 'a, C: Clock, E: Write + IsTerminal> CountBytes for &'m Meter<'a, C, E>
             &format_args!("{percent} %, {read} of {} MB", size / MEGABYTE),
             after,
         );
+    }
+
+    fn failed(&self) -> &Cell<Option<usize>> {
+        &self.failed
     }
 }
 

@@ -1,9 +1,9 @@
 //! Refusals of a command, with their lines and exit statuses.
-use super::escape::EscapedOut;
 use clap::error::ErrorKind;
-use osm_files::Fault;
-use osm_mirror::{Memory, PlanFault, PlanReason, RequestFault, fault_text};
+use osm_files::{Fault, Reason};
+use osm_mirror::{EscapedOut, Memory, NamesFault, PlanFault, PlanReason, RequestFault, fault_text};
 use std::alloc::{AllocError, Global};
+use std::io;
 use std::io::{IsTerminal, Write};
 use thiserror::Error;
 
@@ -17,6 +17,9 @@ pub(crate) enum Refusal<'a> {
     WordsNotUtf8(String),
     #[error("a command is missing")]
     NoCommand,
+    /// The argument of `--explain` is none of the reasons.
+    #[error("{reason}: not a reason")]
+    NotReason { reason: &'a str },
     /// The times of `time-filter` are no moment or no period.
     #[error("{0}")]
     Request(#[from] RequestFault<'a>),
@@ -29,16 +32,16 @@ pub(crate) enum Refusal<'a> {
     ShardWithoutOpl,
     #[error("standard input: given twice")]
     StandardInputTwice,
-    #[error("{name}: no names")]
-    ListEmpty { name: &'a str },
-    #[error("{name}: name {number}: empty")]
-    ListNameEmpty { name: &'a str, number: usize },
+    /// A list of names is refused. The fault is never `Memory`.
+    #[error("{name}: {fault}")]
+    List { name: &'a str, fault: NamesFault },
     #[error("{name}: not UTF-8")]
     ListNotUtf8 { name: &'a str },
     #[error("{output}.part: input is the output")]
     InputIsOutput { output: &'a str },
+    /// `code` is the system's number of the error, if the system refused to open or to read the file.
     #[error("{name}: cannot read")]
-    CannotRead { name: &'a str },
+    CannotRead { name: &'a str, code: Option<i32> },
     #[error("{name}: changed during the run")]
     Changed { name: &'a str },
     /// OUT.part can't be made. `error` is the system's number of the error, if the system refused to make the file.
@@ -85,11 +88,37 @@ impl<'a> Refusal<'a> {
         }
     }
 
+    /// The refusal of a file that the system didn't open or read.
+    pub(crate) fn unread(name: &'a str, error: &io::Error) -> Refusal<'a> {
+        let code = error.raw_os_error();
+        Refusal::CannotRead { name, code }
+    }
+
+    /// The refusal of the list of names in the file `name`.
+    pub(crate) fn of_list(fault: NamesFault, name: &'a str) -> Refusal<'a> {
+        match fault {
+            NamesFault::Memory => Refusal::Memory(AllocError),
+            _ => Refusal::List { name, fault },
+        }
+    }
+
     /// The refusal of the plan in the file `name`.
     pub(crate) fn of_plan(fault: PlanFault, name: &'a str) -> Refusal<'a> {
         match fault.reason {
             PlanReason::Memory => Refusal::Memory(AllocError),
             _ => Refusal::Plan { name, fault },
+        }
+    }
+
+    /// The place of the fault of a refused file, if it has one, and the reason.
+    pub(crate) fn cause(&self) -> (Option<u64>, &'static str) {
+        match self {
+            Refusal::File(_, _, fault, _) if fault.reason != Reason::Memory => {
+                (Some(fault.place), fault.reason.name())
+            }
+            Refusal::CannotRead { .. } => (None, "cannot read"),
+            Refusal::Changed { .. } => (None, "changed during the run"),
+            _ => (None, "out of memory"),
         }
     }
 
@@ -107,23 +136,20 @@ impl<'a> Refusal<'a> {
         self.status()
     }
 
-    /// The exit status: 2 for a mistake of the user, 1 for all else.
+    /// The exit status: 1 if a file, memory or an output failed, 2 for a mistake of the user.
     fn status(&self) -> u8 {
         match self {
-            Refusal::Words(_)
-            | Refusal::WordsNotUtf8(_)
-            | Refusal::NoCommand
-            | Refusal::Request(_)
-            | Refusal::NotShard { .. }
-            | Refusal::NotRegular { .. }
-            | Refusal::ShardWithoutOpl
-            | Refusal::StandardInputTwice
-            | Refusal::ListEmpty { .. }
-            | Refusal::ListNameEmpty { .. }
-            | Refusal::ListNotUtf8 { .. }
-            | Refusal::InputIsOutput { .. }
-            | Refusal::Plan { .. } => 2,
-            _ => 1,
+            Refusal::CannotRead { .. }
+            | Refusal::Changed { .. }
+            | Refusal::CannotCreate { .. }
+            | Refusal::CannotWrite { .. }
+            | Refusal::CannotSync { .. }
+            | Refusal::CannotRename { .. }
+            | Refusal::File(..)
+            | Refusal::EventsRefused { .. }
+            | Refusal::Memory(_)
+            | Refusal::StandardOutput => 1,
+            _ => 2,
         }
     }
 }

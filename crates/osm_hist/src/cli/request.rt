@@ -3,11 +3,10 @@ use super::command::LIST;
 use super::files::{STANDARD_INPUT, input_name, open, read, read_stream};
 use super::part::FileId;
 use super::refusal::Refusal;
-use super::shard::parse_shard;
 use super::target::{STANDARD, Target};
 use clap::ArgMatches;
 use osm_files::Format;
-use osm_mirror::{Command, FileRequest, FilesRun, Shard};
+use osm_mirror::{Command, FileRequest, FilesRun, Shard, read_names};
 use std::alloc::Global;
 use std::io::Read;
 
@@ -22,6 +21,10 @@ pub(super) struct Request<'a> {
     pub(super) list: Option<&'a str>,
     /// Whether each file has to be sorted.
     pub(super) sorted: bool,
+    /// Whether a line on standard error has the tally of each file that is checked, or the work of a run.
+    pub(super) summary: bool,
+    /// Whether a check prints objects of JSON.
+    pub(super) json: bool,
 }
 
 impl<'a> Request<'a> {
@@ -41,23 +44,21 @@ impl<'a> Request<'a> {
             Some(names) if list.is_none() => Vec::from_slice(alloc, names)?,
             _ => Vec::new(alloc),
         };
-        refuse_twice(names.as_slice())?;
+        refuse_twice(names.as_slice(), false)?;
         let files = InputFiles {
             names,
             list: None,
             end: FileEnd::of_matches(args),
             keeps_empty: args.get_str("shard").is_some(),
         };
-        let sorted = args.get_flag("sorted");
-        match FileRun::of_matches(name, args) {
-            Ok(run) => Ok(Request {
-                run,
-                files,
-                list,
-                sorted,
-            }),
-            Err(refusal) => Err(refusal),
-        }
+        Ok(Request {
+            run: FileRun::of_matches(name, args)?,
+            files,
+            list,
+            sorted: args.get_flag("sorted"),
+            summary: args.get_flag("summary"),
+            json: args.get_flag("json"),
+        })
     }
 
     /// The request with the names in its list of files. `text` is the text of the list, and `id` its identity.
@@ -74,8 +75,9 @@ impl<'a> Request<'a> {
         let Some(list) = self.list else {
             return Ok(self);
         };
-        let names = names_of(alloc, list, text)?;
-        refuse_twice(names.as_slice())?;
+        let (name, read) = (input_name(list), read_names(alloc, text));
+        let names = read.map_err(|fault| Refusal::of_list(fault, name))?;
+        refuse_twice(names.as_slice(), list == STANDARD)?;
         let files = InputFiles {
             names,
             list: id,
@@ -86,13 +88,13 @@ impl<'a> Request<'a> {
     }
 }
 
-/// Refuses standard input in `names` more than once.
-fn refuse_twice<'a>(names: &[&str]) -> Result<(), Refusal<'a>> {
-    if names.iter().filter(|name| **name == STANDARD).count() > 1 {
-        Err(Refusal::StandardInputTwice)
-    } else {
-        Ok(())
+/// Refuses standard input in `names` more than once, and at all if it is used up.
+fn refuse_twice<'a>(names: &[&str], is_used: bool) -> Result<(), Refusal<'a>> {
+    let most = usize::from(!is_used);
+    if names.iter().filter(|name| **name == STANDARD).count() > most {
+        return Err(Refusal::StandardInputTwice);
     }
+    Ok(())
 }
 
 /// A run that makes one file from files.
@@ -118,7 +120,7 @@ impl<'a> FileRun<'a> {
         };
         let run = file_request(command, args).run()?;
         let shard = match args.get_str("shard") {
-            Some(shard) => Some(parse_shard(shard).ok_or(Refusal::NotShard { shard })?),
+            Some(shard) => Some(Shard::read(shard).ok_or(Refusal::NotShard { shard })?),
             None => None,
         };
         Ok(Some(FileRun {
@@ -191,32 +193,10 @@ pub(super) fn read_list<'a, I: Read + Drop>(
             FileId::of_input(rt),
         )
     } else {
-        return Err(Refusal::CannotRead { name });
+        return Err(Refusal::CannotRead { name, code: None });
     };
-    match String::from_utf8(bytes) {
-        Ok(text) => Ok((text, id)),
-        Err(_) => Err(Refusal::ListNotUtf8 { name }),
-    }
-}
-
-/// The names in `text`, which is the text of `list`. The last name may lack its NUL.
-fn names_of<'a>(alloc: Global, list: &'a str, text: &'a str) -> Result<Vec<&'a str>, Refusal<'a>> {
-    let name = input_name(list);
-    if text.is_empty() {
-        return Err(Refusal::ListEmpty { name });
-    }
-    let mut names = Vec::new(alloc);
-    for file in text.strip_suffix('\0').unwrap_or(text).split('\0') {
-        if file.is_empty() {
-            let number = names.len().saturating_add(1);
-            return Err(Refusal::ListNameEmpty { name, number });
-        }
-        if file == STANDARD && list == STANDARD {
-            return Err(Refusal::StandardInputTwice);
-        }
-        names.push(file)?;
-    }
-    Ok(names)
+    let text = String::from_utf8(bytes).map_err(|_| Refusal::ListNotUtf8 { name })?;
+    Ok((text, id))
 }
 
 /// How an OPL file must end.

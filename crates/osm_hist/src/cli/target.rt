@@ -1,11 +1,11 @@
 //! Targets of a run: a file that the run makes, an existing pipe or device, or standard output.
 ghost use Rattle.std.specs.Prelude.{◌≡◌};
 
-use super::files::write_retried;
 use super::part::{FileId, OutPart, folder_of, is_part};
 use super::refusal::Refusal;
 use either::{Either, Left, Right};
 use osm_files::Clear;
+use osm_mirror::write_retried;
 use std::fs::File;
 use std::io::{ErrorKind, Seek, SeekFrom, Write};
 use std::{fs, io};
@@ -98,10 +98,8 @@ impl<'a> Target<'a> {
                 return Err(Refusal::CannotRename { output });
             }
             Target::File(output) => {
-                match OutPart::make(rt, output, inputs) {
-                    Ok((part, file)) => (Some(part), Left(file)),
-                    Err(refusal) => return Err(refusal),
-                }
+                let (part, file) = OutPart::make(rt, output, inputs)?;
+                (Some(part), Left(file))
             }
             Target::Existing { name, appends } => {
                 let opened = File::options()
@@ -113,11 +111,10 @@ impl<'a> Target<'a> {
             }
             Target::StandardOutput => (None, Right(out)),
         };
-        let error = None;
         Ok(Destination {
             part,
             writer,
-            error,
+            error: None,
         })
     }
 }

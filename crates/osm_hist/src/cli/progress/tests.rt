@@ -1,6 +1,6 @@
 //! Reports of a run on a terminal and elsewhere.
 use super::Meter;
-use crate::cli::input::CountBytes;
+use crate::cli::input::Watch;
 use std::alloc::Global;
 use std::cell::Cell;
 use std::io::{IsTerminal, Write};
@@ -49,7 +49,7 @@ impl IsTerminal for Screen {
 /// Reads 100 of 1000 bytes at each of `times`.
 fn read_at(clock: &TestClock, screen: &mut Screen, times: &[u64]) {
     let meter = Meter::new(clock, screen, true);
-    meter.set_size(Some(1000));
+    meter.size.set(Some(1000));
     for time in times {
         clock.milliseconds.set(*time);
         (&meter).count(100);

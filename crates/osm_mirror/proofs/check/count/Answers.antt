@@ -5,7 +5,7 @@ use Rattle.osm_mirror.proofs.CheckLaws.{Counting, count_none, count_more, count_
 use Rattle.osm_mirror.proofs.check.count.Goals as goal
 
 pub versions-init : goal.versions-init
-versions-init g c = λ later k. (later, k, count_none (Some later))
+versions-init g c = λ later k. rw c.new.ensures (later, k, count_none (Some later))
 
 pub versions-preserved : goal.versions-preserved
 versions-preserved g c = λ later k.
@@ -17,7 +17,7 @@ versions-preserved g c = λ later k.
       x.1,
       subst (λ (last : Option VersionData). Counting (Some x.0) (Some later) last c.count_one-sizes.result) (sym held)
           (count_more (Some x.0) (Some y.0) (Some later) c.versions.last c.in-Some.version c.versions.sizes c.count_one-sizes.result x.2 y.2
-          c.count_one-sizes.ensures.versions c.count_one-sizes.ensures.objects),
+          c.count_one-sizes.ensures.versions c.count_one-sizes.ensures.objects c.count_one-sizes.ensures.tally),
     )
 
 pub returns-in_default-clause-sizes : goal.returns-in_default-clause-sizes

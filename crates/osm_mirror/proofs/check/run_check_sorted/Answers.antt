@@ -1,29 +1,6 @@
-use Rattle.std.proofs.Common.{◌≡◌, ◌⊎◌, subst, Some}
-use Rattle.osm_files.specs.Fault.{memory_fault}
-use Rattle.std.proofs.lemmas.Result.{err_from_is_err_and}
-use Rattle.osm_merge.specs.ToCome as source
-use Rattle.osm_mirror.specs.Check.{IsCounted}
-use Rattle.osm_mirror.proofs.CheckLaws.{sorted_report_is}
 use Rattle.osm_mirror.proofs.check.run_check_sorted.Goals as goal
 
 pub returns-clause-report : goal.returns-clause-report
 returns-clause-report g c =
-    let n = c.in_ok-sizes.ensures.sizes in
-    let x = c.in_ok-format.ensures.opened n.0 n.1 in (
-      x.0,
-      x.1,
-      sorted_report_is x.0 c.in_ok-format.format c.in_ok-sizes.sizes x.2.0
-          (subst (λ (s : source.VersionsToCome). IsCounted s c.in_ok-sizes.sizes) x.2.1 n.2),
-    )
-
-pub returns-in_err-sizes-clause-refused : goal.returns-in_err-sizes-clause-refused
-returns-in_err-sizes-clause-refused g c =
-    let n = c.in_err-sizes.ensures.refused in
-    let x = c.in_ok-format.ensures.opened n.0 n.1 in
-    let p = err_from_is_err_and c.from_residual-in_err-sizes.result c.from_residual-in_err-sizes.ensures.1 in
-    rw (p.1, p.2) (
-      x.0,
-      x.1,
-      subst (λ (s : source.VersionsToCome). (c.in_err-sizes.field-0.0 ≡ memory_fault)
-          ⊎ (s.refusal ≡ Some c.in_err-sizes.field-0.0)) x.2.1 n.2,
-    )
+    let given = c.in_ok-run_tally_sorted.ensures.checked in
+    (given.0, given.1, given.2.report)

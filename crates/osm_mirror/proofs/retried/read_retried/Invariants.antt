@@ -1,6 +1,6 @@
 use Rattle.std.proofs.Common.{◌≡◌, length}
 use Rattle.std.specs.Io.KnownBytes.{Keeps}
-use Rattle.osm_hist.proofs.cli.files.read_retried.Given as goal
+use Rattle.osm_mirror.proofs.retried.read_retried.Given as goal
 
 abbrev pub invariant-tries : goal.invariant-tries
 invariant-tries g l = (length l.buffer ≡ length l.initial.buffer)
