@@ -21,10 +21,18 @@ use osm_mirror::{Escaped, Explanation};
 use plan_run::run_plan;
 pub(crate) use refusal::Refusal;
 use request::{Request, read_list};
-use std::alloc::Global;
+use std::alloc::{AllocGlobal, Global};
 use std::convert::AsStr;
+use std::fs::File;
 use std::io::{IsTerminal, Read, Write};
+use std::rt::Files;
+use std::time::Clock;
 use target::STANDARD;
+
+/// The system that runs the program: its files, its clock and its memory.
+pub trait Host: Files<File = File> + Clock + AllocGlobal {}
+
+impl<R: Files<File = File> + Clock + AllocGlobal> Host for R {}
 
 /// The arguments of a run without arguments: standard input is merged to standard output.
 const NO_ARGS: [&str; 4] = ["merge", "--output", STANDARD, STANDARD];
@@ -38,7 +46,7 @@ const NO_ARGS: [&str; 4] = ["merge", "--output", STANDARD, STANDARD];
 ///
 /// The status is 0 for success and help. It is 1 if a file, memory or `out` fails. It is 2 for a usage error: a mistake
 /// in the arguments, in a list of files or in a plan.
-pub fn run_words<S, I, O, E>(rt: &HostRuntime, words: &[S], input: I, mut out: O, mut err: E) -> u8
+pub fn run_words<S, I, O, E>(rt: &impl Host, words: &[S], input: I, mut out: O, mut err: E) -> u8
 where
     S: AsStr,
     I: Read + Drop,
@@ -86,7 +94,7 @@ fn escaped_mistake<S: AsStr>(alloc: Global, args: &[S]) -> Option<Error> {
 
 /// Runs the command `name` with the arguments `args`, reports its outcome and returns the exit status.
 fn run_command<I: Read + Drop, O: Write + IsTerminal, E: Write + IsTerminal>(
-    rt: &HostRuntime,
+    rt: &impl Host,
     name: &str,
     args: &ArgMatches<'_>,
     input: I,
@@ -105,7 +113,7 @@ fn run_command<I: Read + Drop, O: Write + IsTerminal, E: Write + IsTerminal>(
 
 /// Reads the list of files that the request names, if it names one, runs the request, and reports its outcome.
 fn run_request<I: Read + Drop, O: Write + IsTerminal, E: Write + IsTerminal>(
-    rt: &HostRuntime,
+    rt: &impl Host,
     request: Request<'_>,
     input: I,
     out: &mut O,
@@ -136,7 +144,7 @@ fn run_request<I: Read + Drop, O: Write + IsTerminal, E: Write + IsTerminal>(
 
 /// Reports a refusal, if there is one, and returns the exit status.
 fn status_of<E: Write + IsTerminal>(
-    rt: &HostRuntime,
+    rt: &impl Host,
     outcome: Result<(), Refusal<'_>>,
     err: &mut E,
 ) -> u8 {

@@ -3,7 +3,7 @@ use super::files::input_name;
 use super::input::{InputBytes, OpenInput, Watch};
 use super::refusal::Refusal;
 use super::request::Request;
-use super::{hint, print};
+use super::{Host, hint, print};
 use osm_files::{Fault, FramedExtent, ReadAt, Reason, SortedRun};
 use osm_mirror::{
     Checked, CheckedFile, CheckedJson, EscapedOut, RefusedJson, run_tally, run_tally_sorted,
@@ -36,7 +36,7 @@ impl Watch for &Reads {
 /// a line, too. After a refusal the check continues with the next file, unless its line can't be printed. Returns the
 /// status of the last refusal, or 0.
 pub(super) fn check_files<I: Read + Drop, O: Write + IsTerminal, E: Write + IsTerminal>(
-    rt: &HostRuntime,
+    rt: &impl Host,
     request: &Request<'_>,
     mut input: Option<I>,
     out: &mut O,
@@ -114,7 +114,7 @@ fn line_of(
 
 /// Checks the file that `arg` names. Its reads are noted in `reads`.
 fn check_file<'a, I: Read + Drop>(
-    rt: &HostRuntime,
+    rt: &impl Host,
     request: &Request<'a>,
     arg: &'a str,
     input: &mut Option<I>,

@@ -1,10 +1,10 @@
 //! Runs that make one file from files.
 use super::input::{InputBytes, OpenInput, RegularInput, StreamInput, Watch};
 use super::progress::Meter;
-use super::refusal::Refusal;
 use super::request::{FileRun, InputFiles};
 use super::shard::{check_shardable, refuse_irregular};
 use super::target::Target;
+use super::{Host, Refusal};
 use osm_files::{Clear, Fault, Reason, ToWrite};
 use osm_mirror::{
     Counts, NoProgress, RunFile, RunSummary, RunTally, ShardRun, run_files as run_open_files,
@@ -18,7 +18,7 @@ const BUFFER: usize = 65536;
 
 /// Makes OUT from files. A file is written as OUT.part, which becomes OUT at the end and is removed after a refusal.
 pub(super) fn run_files<'a, I: Read + Drop, O: Write, E: Write + IsTerminal>(
-    rt: &HostRuntime,
+    rt: &impl Host,
     asked: &FileRun<'a>,
     files: &InputFiles<'a>,
     mut input: Option<I>,
@@ -37,23 +37,23 @@ pub(super) fn run_files<'a, I: Read + Drop, O: Write, E: Write + IsTerminal>(
 
 /// A run over files, with its request and its reports.
 #[derive(Drop)]
-struct Runner<'a, 'q, 'f, 'r, 'e, E> {
-    rt: &'r HostRuntime,
+struct Runner<'a, 'q, 'f, 'r, 'e, R, E> {
+    rt: &'r R,
     asked: &'q FileRun<'a>,
     files: &'f InputFiles<'a>,
     target: Target<'a>,
-    meter: Meter<'e, HostRuntime, E>,
+    meter: Meter<'e, R, E>,
 }
 
 /// The inputs of a run, whose reads the meter watches.
-type Inputs<'a, 'm, 'e, I, E> = Vec<OpenInput<'a, I, &'m Meter<'e, HostRuntime, E>>>;
+type Inputs<'a, 'm, 'e, I, R, E> = Vec<OpenInput<'a, I, &'m Meter<'e, R, E>>>;
 
-impl<'a, 'q, 'f, 'r, 'e, E: Write + IsTerminal> Runner<'a, 'q, 'f, 'r, 'e, E> {
+impl<'a, 'q, 'f, 'r, 'e, R: Host, E: Write + IsTerminal> Runner<'a, 'q, 'f, 'r, 'e, R, E> {
     /// Opens the files, each once.
     fn open<'m, I: Read + Drop>(
         &'m self,
         input: &mut Option<I>,
-    ) -> Result<Inputs<'a, 'm, 'e, I, E>, Refusal<'a>> {
+    ) -> Result<Inputs<'a, 'm, 'e, I, R, E>, Refusal<'a>> {
         let names = self.files.names.as_slice();
         let is_shard = self.asked.shard.is_some();
         self.target.refuse_part(names)?;

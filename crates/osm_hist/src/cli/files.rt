@@ -1,6 +1,6 @@
 //! Files that are opened to be read.
-use super::refusal::Refusal;
 use super::target::STANDARD;
+use super::{Host, Refusal};
 use std::alloc::AllocError;
 use std::fs::{File, Metadata};
 use std::io::{ErrorKind, Read};
@@ -49,14 +49,14 @@ pub(super) fn input_name<'a>(arg: &'a str) -> &'a str {
 }
 
 /// Opens the file `name` to be read.
-pub(super) fn open<'a>(rt: &HostRuntime, name: &'a str) -> Result<File, Refusal<'a>> {
+pub(super) fn open<'a>(rt: &impl Host, name: &'a str) -> Result<File, Refusal<'a>> {
     File::open(rt, name).map_err(|error| Refusal::unread(name, &error))
 }
 
 /// Reads an open file, whose name is `name`, or the rest of a pipe or a device. A regular file that changes while it is
 /// read is refused.
 pub(super) fn read<'a>(
-    rt: &HostRuntime,
+    rt: &impl Host,
     file: &mut File,
     name: &'a str,
 ) -> Result<Vec<u8>, Refusal<'a>> {
@@ -70,7 +70,7 @@ pub(super) fn read<'a>(
 
 /// Reads the rest of `stream`, whose name is `name`.
 pub(super) fn read_stream<'a, S: Read>(
-    rt: &HostRuntime,
+    rt: &impl Host,
     stream: &mut S,
     name: &'a str,
 ) -> Result<Vec<u8>, Refusal<'a>> {

@@ -1,7 +1,7 @@
 //! Hints: one line after a refusal or a success, which says what to do.
 use super::files::STANDARD_INPUT;
 use super::part::{folder_of, id_of_regular, part_name};
-use super::refusal::Refusal;
+use super::{Host, Refusal};
 use osm_files::{FORMAT_NAMES, Fault, Format, Reason};
 use osm_mirror::{
     CUT, Content, Escaped, Explanation, FaultyLine, Quoted, RequestFault, content_of,
@@ -20,7 +20,7 @@ const LESS_MEMORY: &str =
 
 /// Reports a refusal and returns the exit status. A hint follows if `is_asked`, or if standard error is a terminal.
 pub(super) fn report<E: Write + IsTerminal>(
-    rt: &HostRuntime,
+    rt: &impl Host,
     refusal: &Refusal<'_>,
     err: &mut E,
     is_asked: bool,
@@ -62,7 +62,7 @@ pub(super) fn after_output(alloc: Global, output: &str, format: Format) -> Optio
 }
 
 /// The hint after the refusal `refusal`.
-fn after_refusal(rt: &HostRuntime, refusal: &Refusal<'_>) -> Option<String> {
+fn after_refusal(rt: &impl Host, refusal: &Refusal<'_>) -> Option<String> {
     let hint = match refusal {
         Refusal::Request(RequestFault::NotMoment { time }) if fs::metadata(rt, *time).is_ok() =>
             "time-filter takes one FILE; merge several first, or name them by --files0-from",
@@ -107,7 +107,7 @@ fn explained(alloc: Global, hint: Option<String>, reason: &str) -> Option<String
 
 /// The system's reason for the refusal of the file `name`. `code` is its number. If too many files are open, the hint
 /// names the limit.
-fn of_system(rt: &HostRuntime, name: &str, code: i32) -> Option<String> {
+fn of_system(rt: &impl Host, name: &str, code: i32) -> Option<String> {
     if TOO_MANY_OPEN.contains(&code)
         && let Some(limit) = open_limit(rt)
     {
@@ -119,7 +119,7 @@ fn of_system(rt: &HostRuntime, name: &str, code: i32) -> Option<String> {
 }
 
 /// The number of files that this process may have open at a time.
-fn open_limit(rt: &HostRuntime) -> Option<u64> {
+fn open_limit(rt: &impl Host) -> Option<u64> {
     let limits = fs::read_to_string(rt, "/proc/self/limits").ok()?;
     let line = limits
         .lines()
@@ -129,7 +129,7 @@ fn open_limit(rt: &HostRuntime) -> Option<u64> {
 
 /// Why OUT.part can't be made: another file has its name, the system refused it with the error `code`, or another run
 /// has it.
-fn of_uncreated(rt: &HostRuntime, output: &str, code: Option<i32>) -> Option<String> {
+fn of_uncreated(rt: &impl Host, output: &str, code: Option<i32>) -> Option<String> {
     let alloc = rt.alloc();
     let part = part_name(alloc, output).ok()?;
     let what = match (fs::symlink_metadata(rt, part.as_str()), code) {
@@ -144,7 +144,7 @@ fn of_uncreated(rt: &HostRuntime, output: &str, code: Option<i32>) -> Option<Str
 
 /// The hint for a fault of the file `name`. Standard input can't be read once more. `code` is the number of a write
 /// error.
-fn of_fault(rt: &HostRuntime, name: &str, fault: &Fault, code: Option<i32>) -> Option<String> {
+fn of_fault(rt: &impl Host, name: &str, fault: &Fault, code: Option<i32>) -> Option<String> {
     let alloc = rt.alloc();
     let is_input = name == STANDARD_INPUT;
     let hint = match fault.reason {
@@ -166,7 +166,7 @@ fn of_fault(rt: &HostRuntime, name: &str, fault: &Fault, code: Option<i32>) -> O
 }
 
 /// Why the file `name` couldn't be read. Reading it once more shows the reason.
-fn of_unread(rt: &HostRuntime, name: &str) -> Option<String> {
+fn of_unread(rt: &impl Host, name: &str) -> Option<String> {
     let outcome = match File::open(rt, name) {
         Ok(mut file) => file.read(&mut [0u8; 1]),
         Err(error) => Err(error),
@@ -176,7 +176,7 @@ fn of_unread(rt: &HostRuntime, name: &str) -> Option<String> {
 
 /// What a refused file is, by its first bytes: a file of another format, a cut file, or OPL with a faulty line. A hint
 /// that names a command ends with it.
-fn of_content(rt: &HostRuntime, name: &str, fault: &Fault) -> Option<String> {
+fn of_content(rt: &impl Host, name: &str, fault: &Fault) -> Option<String> {
     let (alloc, reason) = (rt.alloc(), fault.reason.name());
     let mut head = [0u8; 16];
     let count = File::open(rt, name).ok()?.read(&mut head).ok()?;
@@ -191,7 +191,7 @@ fn of_content(rt: &HostRuntime, name: &str, fault: &Fault) -> Option<String> {
 }
 
 /// The number of the faulty line of a file, which is read once more, and the object that the line begins with.
-fn of_line(rt: &HostRuntime, name: &str, place: u64) -> Option<String> {
+fn of_line(rt: &impl Host, name: &str, place: u64) -> Option<String> {
     let line = FaultyLine::read(&mut File::open(rt, name).ok()?, place)?;
     format!(in rt.alloc();
         "line {} of {}, which begins with {}",

@@ -3,9 +3,9 @@ ghost use Rattle.std.specs.Prelude.{◌≡◌};
 
 use super::files::{STANDARD_INPUT, Stamp, open};
 use super::part::FileId;
-use super::refusal::Refusal;
 use super::request::{FileEnd, InputFiles};
 use super::target::STANDARD;
+use super::{Host, Refusal};
 use either::{Either, Left, Right};
 use osm_files::{
     Broken, EndMarked, Fault, FromFile, FromRead, ReadAt, Reason, WholeFile, WholeLines,
@@ -156,7 +156,7 @@ impl<'a, I: Read + Drop, M: Watch> OpenInput<'a, I, M> {
     /// Opens the file that `arg` names, or standard input, which is taken from `input`, as the input `number`. `files`
     /// has the end that it must have.
     pub(super) fn open(
-        rt: &HostRuntime,
+        rt: &impl Host,
         files: &InputFiles<'a>,
         number: usize,
         arg: &'a str,

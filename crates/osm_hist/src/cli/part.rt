@@ -2,7 +2,7 @@
 //!
 //! A run holds a lock on its OUT.part. The lock ends with the process, so the next run can remove the file that a
 //! killed run left and make its own.
-use super::refusal::Refusal;
+use super::{Host, Refusal};
 use std::alloc::{AllocError, Global};
 use std::fs::{File, Metadata, Permissions, TryLockError};
 use std::io::ErrorKind;
@@ -43,7 +43,7 @@ impl FileId {
     }
 
     /// The identity of standard input, which may be a file, too.
-    pub(super) fn of_input(rt: &HostRuntime) -> Option<FileId> {
+    pub(super) fn of_input(rt: &impl Host) -> Option<FileId> {
         FileId::of_known(fs::metadata(rt, "/dev/stdin"))
     }
 }
@@ -68,7 +68,7 @@ pub(super) fn folder_of(name: &str) -> &str {
 }
 
 /// The identity of the regular file `name`, or of the one that a link of that name leads to.
-pub(super) fn id_of_regular(rt: &HostRuntime, name: &str) -> Option<FileId> {
+pub(super) fn id_of_regular(rt: &impl Host, name: &str) -> Option<FileId> {
     let metadata = fs::metadata(rt, name)
         .ok()
         .filter(|metadata| metadata.is_file());
@@ -89,7 +89,7 @@ pub(super) struct OutPart<'a> {
 impl<'a> OutPart<'a> {
     /// Makes and locks OUT.part, which must not be one of `inputs`. It gets the mode and the owner of an existing OUT.
     pub(super) fn make(
-        rt: &HostRuntime,
+        rt: &impl Host,
         output: &'a str,
         inputs: &[Option<FileId>],
     ) -> Result<(OutPart<'a>, File), Refusal<'a>> {
@@ -108,7 +108,7 @@ impl<'a> OutPart<'a> {
     /// its new name after it.
     pub(super) fn complete(
         &self,
-        rt: &HostRuntime,
+        rt: &impl Host,
         file: &File,
         fsync: bool,
     ) -> Result<(), Refusal<'a>> {
@@ -127,7 +127,7 @@ impl<'a> OutPart<'a> {
     }
 
     /// Renames the file to OUT.
-    fn rename(&self, rt: &HostRuntime) -> Result<(), Refusal<'a>> {
+    fn rename(&self, rt: &impl Host) -> Result<(), Refusal<'a>> {
         let (name, output) = (self.name.as_str(), self.output);
         if is_named(rt, name, self.id) && fs::rename(rt, name, output).is_ok() {
             Ok(())
@@ -137,7 +137,7 @@ impl<'a> OutPart<'a> {
     }
 
     /// Removes the file if its name still belongs to it. If the removal fails, the file stays.
-    pub(super) fn discard(&self, rt: &HostRuntime) {
+    pub(super) fn discard(&self, rt: &impl Host) {
         remove_named(rt, self.name.as_str(), self.id);
     }
 }
@@ -145,7 +145,7 @@ impl<'a> OutPart<'a> {
 /// Makes OUT.part, in at most `ATTEMPTS` attempts. The result is none if the file of that name is one of `inputs`. An
 /// error without the system's number means that another file keeps the name.
 fn attempts(
-    rt: &HostRuntime,
+    rt: &impl Host,
     name: &str,
     output: &str,
     inputs: &[Option<FileId>],
@@ -163,7 +163,7 @@ fn attempts(
 
 /// Makes the file and locks it, or returns none if there is a file of that name. Only its owner may open it if OUT
 /// exists, since OUT may be private.
-fn create(rt: &HostRuntime, name: &str, output: &str) -> io::Result<Option<(File, FileId)>> {
+fn create(rt: &impl Host, name: &str, output: &str) -> io::Result<Option<(File, FileId)>> {
     let old = existing(rt, output)?;
     let mode = old.as_ref().map_or(NEW_MODE, |_| PRIVATE_MODE);
     let mut options = File::options();
@@ -176,7 +176,7 @@ fn create(rt: &HostRuntime, name: &str, output: &str) -> io::Result<Option<(File
 }
 
 /// The metadata of OUT, or of the file that it leads to, if that is a regular file.
-fn existing(rt: &HostRuntime, output: &str) -> io::Result<Option<Metadata>> {
+fn existing(rt: &impl Host, output: &str) -> io::Result<Option<Metadata>> {
     match fs::metadata(rt, output) {
         Ok(old) => Ok(Some(old).filter(|old| old.is_file())),
         Err(error)
@@ -191,7 +191,7 @@ fn existing(rt: &HostRuntime, output: &str) -> io::Result<Option<Metadata>> {
 /// Locks a file that was just made, and gives it the mode and the owner of `old`, which is OUT. The result is none if
 /// the file lost its name to another run.
 fn own(
-    rt: &HostRuntime,
+    rt: &impl Host,
     name: &str,
     old: Option<Metadata>,
     file: File,
@@ -251,7 +251,7 @@ fn copy_owner(file: &File, metadata: &Metadata, old: &Metadata) -> bool {
 
 /// Removes the regular file that a killed run left, so that OUT.part may be made. Returns false if the file is an
 /// input. It doesn't remove a link, a folder, a device, or a file that another run has locked.
-fn remove_leftover(rt: &HostRuntime, name: &str, inputs: &[Option<FileId>]) -> io::Result<bool> {
+fn remove_leftover(rt: &impl Host, name: &str, inputs: &[Option<FileId>]) -> io::Result<bool> {
     match leftover(rt, name) {
         Ok(file) => {
             let id = FileId::of(&file.metadata()?);
@@ -272,7 +272,7 @@ fn remove_leftover(rt: &HostRuntime, name: &str, inputs: &[Option<FileId>]) -> i
 }
 
 /// Opens the regular file `name`. A killed run may have left a file that nobody is permitted to write.
-fn leftover(rt: &HostRuntime, name: &str) -> io::Result<File> {
+fn leftover(rt: &impl Host, name: &str) -> io::Result<File> {
     if !fs::symlink_metadata(rt, name)?.is_file() {
         return Err(io::Error::from(ErrorKind::Other));
     }
@@ -283,13 +283,13 @@ fn leftover(rt: &HostRuntime, name: &str) -> io::Result<File> {
 }
 
 /// Whether `name` is the name of the file `id` itself, and not of a link to it.
-fn is_named(rt: &HostRuntime, name: &str, id: FileId) -> bool {
+fn is_named(rt: &impl Host, name: &str, id: FileId) -> bool {
     fs::symlink_metadata(rt, name).is_ok_and(|metadata| metadata.is_file()
         && FileId::of(&metadata) == id)
 }
 
 /// Removes the file `id` if it still has the name `name`.
-fn remove_named(rt: &HostRuntime, name: &str, id: FileId) {
+fn remove_named(rt: &impl Host, name: &str, id: FileId) {
     if is_named(rt, name, id) {
         let _ = fs::remove_file(rt, name);
     }

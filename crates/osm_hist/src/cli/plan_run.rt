@@ -8,7 +8,7 @@ use super::files::{open, read};
 use super::part::{id_of_regular, part_name};
 use super::refusal::Refusal;
 use super::target::{STANDARD, Target};
-use super::{hint, print};
+use super::{Host, hint, print};
 use clap::ArgMatches;
 use osm_files::{Fault, Output, Reason, ToWrite, write_all};
 use osm_mirror::{Event, Fleet, Plan, PlanWrite, Reply, Step, read_plan};
@@ -19,7 +19,7 @@ use std::io::{IsTerminal, Write};
 /// lines. If events were refused, a hint says so; if the plan is strict, no file is made then. No hint follows the
 /// refusal of a file that the plan names.
 pub(super) fn run_plan<O: Write, E: Write + IsTerminal>(
-    rt: &HostRuntime,
+    rt: &impl Host,
     args: &ArgMatches<'_>,
     out: &mut O,
     err: &mut E,
@@ -44,7 +44,7 @@ pub(super) fn run_plan<O: Write, E: Write + IsTerminal>(
 }
 
 /// The plan in the file `name`.
-fn plan_of<'a>(rt: &HostRuntime, name: &'a str) -> Result<Plan, Refusal<'a>>
+fn plan_of<'a>(rt: &impl Host, name: &'a str) -> Result<Plan, Refusal<'a>>
     ensures { IfOk result NamesItsMirrors }
 {
     let text = read(rt, &mut open(rt, name)?, name)?;
@@ -57,7 +57,7 @@ fn plan_of<'a>(rt: &HostRuntime, name: &'a str) -> Result<Plan, Refusal<'a>>
 /// Runs the lines of the plan in the file `name`, and returns the number of refused events. After one, no file is made
 /// if `strict` is set. All files that the plan takes are read before the first step.
 fn run_lines<'p, O: Write>(
-    rt: &HostRuntime,
+    rt: &impl Host,
     name: &str,
     plan: &'p Plan,
     strict: bool,
@@ -84,7 +84,7 @@ fn run_lines<'p, O: Write>(
 
 /// Refuses a write line that would replace the plan `name`, or the file of another write line by its OUT.part.
 fn refuse_overwriting<'p>(
-    rt: &HostRuntime,
+    rt: &impl Host,
     name: &str,
     writes: &'p [PlanWrite],
 ) -> Result<(), Refusal<'p>> {
@@ -107,7 +107,7 @@ fn refuse_overwriting<'p>(
 }
 
 /// The bytes that each step takes: those of its file, or none if the step takes no file.
-fn read_taken<'p>(rt: &HostRuntime, steps: &'p [Step]) -> Result<Vec<Vec<u8>>, Refusal<'p>> {
+fn read_taken<'p>(rt: &impl Host, steps: &'p [Step]) -> Result<Vec<Vec<u8>>, Refusal<'p>> {
     let mut files = Vec::new(rt.alloc());
     for step in steps {
         let bytes = match step {
@@ -158,7 +158,7 @@ fn lines_of(alloc: Global, replies: &[Reply]) -> Result<String, AllocError> {
 
 /// Makes the files of the write lines, in their order.
 fn write_files<'p, O: Write>(
-    rt: &HostRuntime,
+    rt: &impl Host,
     fleet: &Fleet,
     writes: &'p [PlanWrite],
     out: &mut O,
@@ -176,7 +176,7 @@ fn write_files<'p, O: Write>(
 
 /// Makes OUT from `bytes`. A file is written as OUT.part, which becomes OUT at the end and is removed after a refusal.
 fn make_file<'p, O: Write + Drop>(
-    rt: &HostRuntime,
+    rt: &impl Host,
     name: &'p str,
     bytes: &[u8],
     out: O,

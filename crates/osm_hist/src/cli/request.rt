@@ -2,8 +2,8 @@
 use super::command::LIST;
 use super::files::{STANDARD_INPUT, input_name, open, read, read_stream};
 use super::part::FileId;
-use super::refusal::Refusal;
 use super::target::{STANDARD, Target};
+use super::{Host, Refusal};
 use clap::ArgMatches;
 use osm_files::Format;
 use osm_mirror::{Command, FileRequest, FilesRun, Shard, read_names};
@@ -172,7 +172,7 @@ pub(super) struct InputFiles<'a> {
 /// NUL. Returns its text, and the identity of its file if that is known. Without a list the text is empty. A list that
 /// has the name of OUT.part is refused.
 pub(super) fn read_list<'a, I: Read + Drop>(
-    rt: &HostRuntime,
+    rt: &impl Host,
     request: &Request<'a>,
     input: &mut Option<I>,
 ) -> Result<(String, Option<FileId>), Refusal<'a>> {

@@ -1,7 +1,7 @@
 //! The files that can be sharded.
 use super::input::{OpenInput, Watch};
-use super::refusal::Refusal;
 use super::target::STANDARD;
+use super::{Host, Refusal};
 use osm_files::{Broken, ReadAt};
 use std::fs;
 use std::io::Read;
@@ -10,7 +10,7 @@ use std::io::Read;
 const O5_START: u8 = 0xff;
 
 /// Refuses names of files that aren't regular. So no pipe is opened, which would wait.
-pub(super) fn refuse_irregular<'a>(rt: &HostRuntime, names: &[&'a str]) -> Result<(), Refusal<'a>> {
+pub(super) fn refuse_irregular<'a>(rt: &impl Host, names: &[&'a str]) -> Result<(), Refusal<'a>> {
     for name in names {
         let is_regular = *name != STANDARD
             && match fs::metadata(rt, *name) {

@@ -2,7 +2,7 @@
 ghost use Rattle.std.specs.Prelude.{◌≡◌};
 
 use super::part::{FileId, OutPart, folder_of, is_part};
-use super::refusal::Refusal;
+use super::{Host, Refusal};
 use either::{Either, Left, Right};
 use osm_files::Clear;
 use osm_mirror::write_retried;
@@ -27,7 +27,7 @@ pub(super) enum Target<'a> {
 
 impl<'a> Target<'a> {
     /// The target that the argument of `--output` names.
-    pub(super) fn of_arg(rt: &HostRuntime, arg: &'a str) -> Target<'a> {
+    pub(super) fn of_arg(rt: &impl Host, arg: &'a str) -> Target<'a> {
         if arg == STANDARD {
             Target::StandardOutput
         } else {
@@ -37,7 +37,7 @@ impl<'a> Target<'a> {
 
     /// The target with the name `name`. A name of standard output is standard output even if that is a file. Nothing is
     /// made or renamed in `/dev`, nor in `/proc` or a folder below it.
-    pub(super) fn of_name(rt: &HostRuntime, name: &'a str) -> Target<'a> {
+    pub(super) fn of_name(rt: &impl Host, name: &'a str) -> Target<'a> {
         if can_be_made(rt, name)
             && let Some(target) = Target::of_system(rt, name)
         {
@@ -53,7 +53,7 @@ impl<'a> Target<'a> {
     }
 
     /// The target with a name in `/dev`, in `/proc` or in a folder below it. Links of the folder are followed.
-    fn of_system(rt: &HostRuntime, name: &'a str) -> Option<Target<'a>> {
+    fn of_system(rt: &impl Host, name: &'a str) -> Option<Target<'a>> {
         let folder = fs::canonicalize(rt, folder_of(name)).ok()?;
         let folder = folder.as_str();
         let last = name.rsplit_once('/').map_or(name, |(_, last)| last);
@@ -89,7 +89,7 @@ impl<'a> Target<'a> {
     /// `inputs` may be OUT.part.
     pub(super) fn open<O: Drop>(
         self,
-        rt: &HostRuntime,
+        rt: &impl Host,
         inputs: &[Option<FileId>],
         out: O,
     ) -> Result<Destination<'a, O>, Refusal<'a>> {
@@ -120,13 +120,13 @@ impl<'a> Target<'a> {
 }
 
 /// Whether a file of the name `name` can be made, as far as the name shows. A folder can't be replaced.
-fn can_be_made(rt: &HostRuntime, name: &str) -> bool {
+fn can_be_made(rt: &impl Host, name: &str) -> bool {
     let is_folder = fs::symlink_metadata(rt, name).is_ok_and(|metadata| metadata.is_dir());
     !is_folder && !name.is_empty() && !name.ends_with('/')
 }
 
 /// Whether `folder` has the descriptors of this process.
-fn has_descriptors(rt: &HostRuntime, folder: &str) -> bool {
+fn has_descriptors(rt: &impl Host, folder: &str) -> bool {
     match fs::canonicalize(rt, "/proc/self") {
         Ok(own) => folder.strip_prefix(own.as_str()).is_some_and(|rest| rest == "/fd"
             || rest.starts_with("/task/") && rest.ends_with("/fd")),
@@ -149,7 +149,7 @@ impl<'a, O> Destination<'a, O> {
     /// Ends a run with the outcome `written`: OUT.part becomes OUT, or is removed after a refusal.
     pub(super) fn finish<T: Drop>(
         &self,
-        rt: &HostRuntime,
+        rt: &impl Host,
         written: Result<T, Refusal<'a>>,
         fsync: bool,
     ) -> Result<T, Refusal<'a>> {
