@@ -34,8 +34,8 @@ impl ReadAt for FailsFrom {
     }
 }
 
-/// The offset of the first line of `file` that begins at `offset` or after it, or `end`, and the id of the first version
-/// from there up to `end`.
+/// The offset of the first line of `file` that begins at `offset` or after it, or `end`, and the id of the first
+/// version from there up to `end`.
 fn line_text<F: ReadAt>(alloc: Global, file: &F, offset: u64, end: u64) -> String {
     let mut text = String::new(alloc);
     let start = match line_start(file, 3, offset, end) {
