@@ -381,7 +381,7 @@ module _ (bound : Object) where
       (λ before. let one = one_start middle start all late (omega (arith, before, begins)) in
       sym (start_lines middle all) ∙ ap (λ n. drop n all) (sym one) ∙ start_lines start all) early in
       let here : IsFirstUnder all start true =
-          λ short later lines. first short later (subst (λ (b : List ℕ). OplFile b later) (sym same) lines) in (
+      λ short later lines. first short later (subst (λ (b : List ℕ). OplFile b later) (sym same) lines) in (
         omega (arith, near, is),
         record {
           within = h.1.within;

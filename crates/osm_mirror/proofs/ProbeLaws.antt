@@ -1,6 +1,6 @@
 -- The probes of files: what they find, and at which offsets.
-use Rattle.std.proofs.Common.{◌≡◌, ℕ, zero, suc, ◌+◌, ◌-◌, ◌*◌, ◌/◌, ◌≤◌, ◌<◌, ◌==◌, ◌^◌, ◌⊎◌, min, Bool, true, false, not}
-use Rattle.std.proofs.Common.{cond, List, [], ◌∷◌}
+use Rattle.std.proofs.Common.{◌≡◌, ℕ, zero, suc, ◌+◌, ◌-◌, ◌*◌, ◌/◌, ◌≤◌, ◌<◌, ◌==◌, ◌^◌, ◌⊎◌, min, Bool, true, false}
+use Rattle.std.proofs.Common.{not, cond, List, [], ◌∷◌}
 use Rattle.std.proofs.Common.{◌++◌, length, refl, sym, ap, ◌∙◌, subst, arith, Option, Some, None, Ok, IfSome, inl, inr, ⊎_elim}
 use Rattle.std.proofs.Common.{take, drop, take-append-drop, get_or}
 use Rattle.std.proofs.Common.{append_assoc, append-nil}

@@ -14,8 +14,8 @@ use std::alloc::Global;
 /// The offset at which a sorted OPL file is cut at `bound`. The lines before it have the versions whose objects are
 /// below `bound`, and the lines from it on have the others. It is 0 or the offset after a line: the first such offset
 /// from which on the first version isn't below `bound`. So comments between two versions come after the cut. The search
-/// halves a range of offsets: it reads about 30 lines of a file of 1 GB. It reads a long line, or a long stretch of
-/// comments, at most twice.
+/// halves a range of offsets: it reads about 30 lines of a file of 1 GB. It reads a long stretch of comments at most
+/// twice. So it does a long line, unless comments precede it.
 ///
 /// For a file that isn't sorted, it is some offset at which a line begins, or the file's length.
 ///

@@ -1,7 +1,7 @@
 //! What a search knows of the lines of an OPL file from an offset on.
 //!
-//! Why: searches that look at earlier and earlier offsets read no stretch of a file again. A file with 64 MB of
-//! comments is read about twice by all probes together, and was read by each of 64 probes.
+//! Why: searches that look at earlier and earlier offsets read no stretch of a file again. All probes together read a
+//! file with 64 MB of comments about twice, and each of 64 probes read it before.
 ghost use Rattle.std.specs.Prelude.{◌≡◌, ◌≤◌, None, IfOk, IfErr};
 ghost use Rattle.osm_files.specs.Fault.{IsOfFile};
 ghost use Rattle.osm_mirror.specs.CutOffset.{IsCutRefusal};

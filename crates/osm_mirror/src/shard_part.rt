@@ -51,7 +51,7 @@ fn size_of<F: ReadAt>(file: &F, input: usize) -> Result<u64, Fault>
     }
 }
 
-/// The part of a file that is read for the objects within `span`: the lines within it of an OPL file; all of an o5
+/// The part of a file that is read for the objects within `span`: the lines within it of an OPL file; or all of an o5
 /// file, and of a small file.
 ///
 /// # Errors

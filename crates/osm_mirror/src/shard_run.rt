@@ -47,8 +47,9 @@ pub struct ShardRun {
 /// Appends the one file that holds what a shard has of the selection of the versions of all files, each once.
 ///
 /// The bounds of the shards are objects of the OPL files, and are the same for any order of the files. Of an OPL file
-/// only the lines within the shard are read, besides single lines that the search for the bounds reads. An o5 file is
-/// read up to the upper bound. If there are fewer spans than shards, the last shards have no versions.
+/// only the lines within the shard are read, besides single lines that the search for the bounds reads. An o5 file, and
+/// a file of at most 4 KB, is read up to the upper bound. If there are fewer spans than shards, the last shards have no
+/// versions.
 ///
 /// # Errors
 ///

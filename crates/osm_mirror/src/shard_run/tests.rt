@@ -3,6 +3,7 @@ use super::{ShardRun, run_shard};
 use crate::shard::Shard;
 use osm_files::{Format, VecOut};
 use osm_merge::{NoProgress, Selection};
+use osm_model::Memory;
 use std::alloc::Global;
 
 /// Nodes 1 and 2, nodes 3 and 4, and ways 1 and 2. Each line has nine bytes.
@@ -70,6 +71,17 @@ fn shards_are_written(rt: HostRuntime) {
             text
         );
     }
+}
+
+#[test]
+fn lines_within_a_shard_are_read(rt: HostRuntime) -> Result<(), Memory> {
+    let mut file = Vec::new(rt.alloc());
+    file.resize(5000, b'#')?;
+    file.extend_from_slice(b"\n")?;
+    file.extend_from_slice(LONG)?;
+    let text = shard_texts(rt.alloc(), &[&file.as_slice()], 2);
+    assert_eq!(rt; text.as_str(), "|n1n2n3|n4n5n6");
+    Ok(())
 }
 
 #[test]
