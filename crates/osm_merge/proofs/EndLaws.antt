@@ -19,7 +19,7 @@ use Rattle.osm_merge.specs.declared.selection.Selection.{Selection}
 use Rattle.osm_merge.specs.Pass.{put_of, put_at_end, keeps}
 use Rattle.osm_merge.specs.declared.repeats.Repeats.{Repeats}
 use Rattle.osm_merge.specs.Repeats.{comparison_count}
-use Rattle.osm_merge.specs.Put.{EndsFile}
+use Rattle.osm_merge.specs.Put.{EndsFile, CountsMore}
 use Rattle.osm_merge.specs.Tree.{IsHeadUpTo, IsTree}
 use Rattle.osm_merge.specs.Merged.{IsBoundedFrom, few_of, IsMergedAs, Grows}
 use Rattle.osm_merge.proofs.OrderLaws.{none_up_to}
@@ -63,14 +63,12 @@ none_left heads nodes w t top at_w i =
 
 -- If no head is left, the merge is done up to the end of its file.
 pub run_done : {S O : Type 0} {task : MergeTask S O} {heads : List (Option VersionData)} {nodes : List ℕ} {sources : List S}
-    {sink : SinkState} {now : O} {last : Option VersionData} {repeats : Repeats} (one : S → VersionsToCome)
-    → ((s : S) → task.can_give s (one s)) → (counts : Counts) (w : ℕ)
+    {sink : SinkState} {now : O} {last : Option VersionData} {repeats : Repeats} (counts : Counts) (w : ℕ)
     → IsRunning task heads nodes sources sink now last counts repeats → w ≡ get_or nodes 1 0 → get_or heads w None ≡ None
     → IsDone task last sink now counts
-run_done {task = task} {heads = heads} {nodes = nodes} {sources = sources} {last = last} {repeats = repeats} one possible counts w r top
-    at_w =
+run_done {task = task} {heads = heads} {nodes = nodes} {sources = sources} {last = last} {repeats = repeats} counts w r top at_w =
     let none = none_left heads nodes w r.tree top at_w in
-    let q = r.run (map one sources) (give_one task.can_give one possible sources) in
+    let q = r.run (map task.source.one sources) (give_one task.source.can_give task.source.one task.source.possible sources) in
     record {
       so_far = put_of task.selection r.met;
       put = put_of task.selection r.met ++ put_at_end task.selection last;
@@ -111,12 +109,11 @@ run_done {task = task} {heads = heads} {nodes = nodes} {sources = sources} {last
     }
 
 -- the case of no sources
-pub none_done : {S O : Type 0} (task : MergeTask S O) (one : S → VersionsToCome) → ((s : S) → task.can_give s (one s))
-    → (sink : SinkState) (now : O) (counts : Counts)
+pub none_done : {S O : Type 0} (task : MergeTask S O) (sink : SinkState) (now : O) (counts : Counts)
     → length task.first_heads ≡ 0 → HasPut task.format task.number [] (output_change task now) sink
     → counts.read ≡ 0 → counts.written ≡ 0 → counts.compared ≤ length task.first_heads - 1
     → IsDone task None sink now counts
-none_done task one possible sink now counts empty has none_read none_written few =
+none_done task sink now counts empty has none_read none_written few =
     record {
       so_far = [];
       put = put_of task.selection [] ++ put_at_end task.selection None;
@@ -125,8 +122,8 @@ none_done task one possible sink now counts empty has none_read none_written few
       ascends = subst (IsStrictlySortedBy version_cmp) (sym (put_all task.selection None [] refl)) (nothing_ascends version_cmp);
       written_is = none_written;
       shown = (
-        map one task.first_sources,
-        give_one task.can_give one possible task.first_sources,
+        map task.source.one task.first_sources,
+        give_one task.source.can_give task.source.one task.source.possible task.first_sources,
         λ all up st.
             let size : length task.first_heads ≡ length all = length_heads all task.first_heads st.heads_are in
             let no_head : (i : ℕ) → i < length all → head (rest_at all i) ≡ None = λ i low. absurd (omega arith) in
@@ -154,8 +151,7 @@ module _ {S O : Type 0} {task : MergeTask S O} {last : Option VersionData} {sink
   abbrev pub Counted : Result Counts Fault → Type 0
   Counted result =
       IfOk result (λ done. done.read ≡ counts.read)
-      × IfOk result (λ done. (put : List VersionData) → counts.written ≡ capped_count (length put) →
-      done.written ≡ capped_count (length (put ++ more)))
+      × IfOk result (λ done. CountsMore more counts.written done.written)
       × IfOk result (λ done. done.compared ≡ counts.compared)
 
   -- If the end of the file is written, the merge is done.

@@ -6,7 +6,8 @@ use Rattle.osm_model.specs.Data.{VersionData}
 use Rattle.osm_model.specs.Order.{version_cmp}
 use Rattle.osm_files.specs.declared.fault.Fault.{Fault}
 use Rattle.osm_files.specs.declared.format.Format.{Format}
-use Rattle.osm_files.specs.declared.output.Output.{Ghosts}
+use Rattle.osm_files.specs.declared.output.Output.{Ghosts as OutputGhosts}
+use Rattle.osm_files.specs.declared.source.Source.{Ghosts as SourceGhosts}
 use Rattle.osm_files.specs.Output.{Change}
 use Rattle.osm_files.specs.Change.{change_of}
 use Rattle.osm_files.specs.Sink.{SinkState, HasPut}
@@ -28,15 +29,15 @@ use Rattle.osm_merge.proofs.Settling.{put_nothing}
 
 -- ---- the task
 -- What a merge has to do, which stays the same: the selection that it writes, its sources with the heads that they began
--- with and what they can give after these, the format and number of the sink, and the output before.
+-- with, the format and number of the sink, and the output before. `source` and `output` have the ghosts of their types.
 pub record MergeTask (S O : Type 0) : Type 1 where
   pub selection : Selection
-  pub can_give : S → VersionsToCome → Type 0
+  pub source : SourceGhosts S
   pub first_heads : List (Option VersionData)
   pub first_sources : List S
   pub format : Format
   pub number : ℕ
-  pub output : Ghosts O
+  pub output : OutputGhosts O
   pub before : O
 
 -- the change of the output since the merge began
@@ -46,7 +47,7 @@ output_change task now = change_of task.output task.before now
 -- for some list of rests that the sources could give after their first heads, each list of rests that includes these heads
 -- has a property
 abbrev pub SomeFirstGive : {S O : Type 0} → MergeTask S O → (List VersionsToCome → Type 0) → Type 0
-SomeFirstGive task P = SomePendingGive task.can_give task.first_sources task.first_heads P
+SomeFirstGive task P = SomePendingGive task.source.can_give task.first_sources task.first_heads P
 
 -- the merge is refused with this fault and the output `now`
 abbrev pub RefusesTask : {S O : Type 0} → MergeTask S O → O → Fault → Type 0
@@ -54,11 +55,11 @@ RefusesTask task now fault =
     SomeFirstGive task (λ all. IsRefusedAs task.selection all task.format task.number (output_change task now) fault)
 
 -- the task of a merge that begins with these heads, sources, sink and output
-abbrev pub task_of : {S O : Type 0} → Selection → (S → VersionsToCome → Type 0) → Ghosts O → List (Option VersionData) → List S →
+abbrev pub task_of : {S O : Type 0} → Selection → SourceGhosts S → OutputGhosts O → List (Option VersionData) → List S →
     SinkState → O → MergeTask S O
-task_of selection can_give output heads sources sink before = record {
+task_of selection source output heads sources sink before = record {
   selection = selection;
-  can_give = can_give;
+  source = source;
   first_heads = heads;
   first_sources = sources;
   format = sink.format;
@@ -100,7 +101,7 @@ pub record IsRunning {S O : Type 0} (task : MergeTask S O) (heads : List (Option
   pub known : AreTrueRepeats task.selection last heads repeats
   pub fresh : passes_all task.selection ≡ true → last ≡ None → taken ≡ 0
   pub run :
-      Explained (AllGive task.can_give task.first_sources) (AllGive task.can_give sources)
+      Explained (AllGive task.source.can_give task.first_sources) (AllGive task.source.can_give sources)
       (λ first later. (all : List VersionsToCome) → AllAscend all → AreHeadsOf all task.first_heads (map Some first)
       → IsStanding task.selection all heads (map Some later) met last top taken)
 

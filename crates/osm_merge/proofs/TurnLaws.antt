@@ -1,6 +1,6 @@
 -- One turn of the loop of the merge: its next state, and the results if the sink or a source fails.
 use Rattle.std.proofs.Common.{◌≡◌, ℕ, ◌+◌, ◌*◌, ◌-◌, ◌^◌, ◌<◌, ◌≤◌, Bool, true, false, List, [], ◌∷◌, ◌++◌, map, take, length, get_or, refl}
-use Rattle.std.proofs.Common.{sym, ap, ◌∙◌, subst, arith, Option, Some, None, IfSome, Ok, Err, inl, inr, get_or-set_same}
+use Rattle.std.proofs.Common.{sym, ap, ◌∙◌, subst, arith, Option, Some, None, IfSome, Result, Ok, Err, inl, inr, get_or-set_same}
 use Rattle.std.proofs.Math.Nat.{add-mul}
 use Rattle.std.proofs.Math.ListN.{set, length-set}
 use Rattle.std.proofs.lemmas.List.{length-map, get_or-map}
@@ -24,7 +24,7 @@ use Rattle.osm_merge.specs.declared.repeats.Tie.{Tie}
 use Rattle.osm_merge.specs.declared.repeats.Repeats.{Repeats}
 use Rattle.osm_merge.specs.Repeats.{repeats_after_taking, IsTied, IsPastAt, SavesComparison, comparison_count}
 use Rattle.osm_merge.proofs.RepeatLaws.{known_after}
-use Rattle.osm_merge.specs.Put.{TakesEach, PutsMore}
+use Rattle.osm_merge.specs.Put.{TakesEach, PutsMore, CountsMore}
 use Rattle.osm_merge.specs.Tree.{IsTree}
 use Rattle.osm_merge.specs.Merged.{Grows, last_version, versions_up_to, written_before, IsRefusedAs}
 use Rattle.osm_merge.proofs.Asking.{known_refuses, known_at, map_set_some}
@@ -68,6 +68,10 @@ module _ {S O : Type 0} {task : MergeTask S O} {heads : List (Option VersionData
     abbrev put2 : List VersionData
     put2 = put_of task.selection met2
 
+    -- the sink's result, if it puts the versions that are put when `v` is met
+    abbrev pub PutsNext : SinkState → O → Result (Unit {0}) Fault → Type 0
+    PutsNext sink2 now2 result = PutsMore task.output (versions_put task.selection last v) sink sink2 now now2 result
+
     next_is : put_of task.selection r.met ++ versions_put task.selection last v ≡ put2
     next_is = put_next task.selection last v r.met r.ends
 
@@ -87,26 +91,26 @@ module _ {S O : Type 0} {task : MergeTask S O} {heads : List (Option VersionData
         put_in_front task.selection all (without_head s.states w) met2 (pending_next task.selection last v) (Some v) (r.taken + 1)
         (taken_head all shown s)
 
-    has2 : (sink2 : SinkState) (now2 : O) → PutsMore task.output (versions_put task.selection last v) sink sink2 now now2 (Ok tt)
+    has2 : (sink2 : SinkState) (now2 : O) → PutsNext sink2 now2 (Ok tt)
         → HasPut task.format task.number put2 (output_change task now2) sink2
     has2 sink2 now2 p =
         subst (λ (vs : List VersionData). HasPut task.format task.number vs (output_change task now2) sink2) next_is
         (p task.format task.number (put_of task.selection r.met) task.before r.has)
 
     cut2 : (sink2 : SinkState) (now2 : O) (fault : Fault)
-        → PutsMore task.output (versions_put task.selection last v) sink sink2 now now2 (Err fault)
+        → PutsNext sink2 now2 (Err fault)
         → CutShort task.number (output_change task now2) (open_file_bytes task.format put2) fault
     cut2 sink2 now2 fault p =
         subst (λ (vs : List VersionData). CutShort task.number (output_change task now2) (open_file_bytes task.format vs) fault) next_is
         (p task.format task.number (put_of task.selection r.met) task.before r.has)
 
     -- if the sink refuses a version, the merge is refused
-    pub put_refused : (one : S → VersionsToCome) → ((s : S) → task.can_give s (one s)) → (sink2 : SinkState) (now2 : O) (fault : Fault)
-        → PutsMore task.output (versions_put task.selection last v) sink sink2 now now2 (Err fault)
+    pub put_refused : (sink2 : SinkState) (now2 : O) (fault : Fault)
+        → PutsNext sink2 now2 (Err fault)
         → RefusesTask task now2 fault
-    put_refused one possible sink2 now2 fault p =
-        let later : List VersionsToCome = map one sources in
-        let q = r.run later (give_one task.can_give one possible sources) in (
+    put_refused sink2 now2 fault p =
+        let later : List VersionsToCome = map task.source.one sources in
+        let q = r.run later (give_one task.source.can_give task.source.one task.source.possible sources) in (
           q.0,
           q.1,
           λ all up st. inl (cut_in_file (selection_of task.selection (union_given all)) task.format task.number
@@ -115,12 +119,12 @@ module _ {S O : Type 0} {task : MergeTask S O} {heads : List (Option VersionData
 
     -- After a refused put the output still has the earlier bytes.
     pub put_kept : (sink2 : SinkState) (now2 : O) (fault : Fault) →
-        PutsMore task.output (versions_put task.selection last v) sink sink2 now now2 (Err fault)
+        PutsNext sink2 now2 (Err fault)
         → Grows (output_change task now2)
     put_kept sink2 now2 fault p = let cut = cut2 sink2 now2 fault p in (take cut.count (open_file_bytes task.format put2), cut.appended)
 
     -- After a put the output still has the earlier bytes.
-    pub next_kept : (sink2 : SinkState) (now2 : O) → PutsMore task.output (versions_put task.selection last v) sink sink2 now now2 (Ok tt)
+    pub next_kept : (sink2 : SinkState) (now2 : O) → PutsNext sink2 now2 (Ok tt)
         → Grows (output_change task now2)
     next_kept sink2 now2 p = let has = has2 sink2 now2 p in (open_file_bytes task.format put2, has.sent.appended)
 
@@ -135,12 +139,12 @@ module _ {S O : Type 0} {task : MergeTask S O} {heads : List (Option VersionData
         × SomeFirstGive task (λ all. IsStanding task.selection all heads (map Some (set later w one)) r.met last r.top r.taken)
 
     stepped : (step : VersionsToCome → VersionsToCome → Type 0) (d new : S)
-        → Explained (task.can_give (get_or sources w d)) (task.can_give new) step
-        → (later : List VersionsToCome) → AllGive task.can_give (set sources w new) later → Before step later
+        → Explained (task.source.can_give (get_or sources w d)) (task.source.can_give new) step
+        → (later : List VersionsToCome) → AllGive task.source.can_give (set sources w new) later → Before step later
     stepped step d new x later g =
         let low : w < length sources = subst (λ n. w < n) (sym r.size) inside in
-        let b = give_back task.can_give step sources w new d end_whole later low x g in
-        let size : length later ≡ length sources = give_size task.can_give (set sources w new) later g ∙ length-set sources w new in
+        let b = give_back task.source.can_give step sources w new d end_whole later low x g in
+        let size : length later ≡ length sources = give_size task.source.can_give (set sources w new) later g ∙ length-set sources w new in
         let less : w < length later = omega (arith, size, low) in
         let less_set : w < length (set later w b.0) = omega (arith, less, length-set later w b.0) in (
           b.0,
@@ -152,7 +156,7 @@ module _ {S O : Type 0} {task : MergeTask S O} {heads : List (Option VersionData
 
     -- the source of the version is refused after the version was put
     refused_at : (sink2 : SinkState) (now2 : O) (fault : Fault) (shown : List (Option VersionsToCome)) (after : Option VersionsToCome)
-        → w < length shown → PutsMore task.output (versions_put task.selection last v) sink sink2 now now2 (Ok tt)
+        → w < length shown → PutsNext sink2 now2 (Ok tt)
         → SourceStep {A = VersionData} (get_or shown w None) (Err fault) after
         → (all : List VersionsToCome) → IsStanding task.selection all heads shown r.met last r.top r.taken
         → IsRefusedAs task.selection all task.format task.number (output_change task now2) fault
@@ -195,17 +199,16 @@ module _ {S O : Type 0} {task : MergeTask S O} {heads : List (Option VersionData
         ]
 
     -- If a source is refused, the merge is refused. The versions put up to the last one of the source were written.
-    pub source_refused : (one : S → VersionsToCome) → ((s : S) → task.can_give s (one s)) → (sink2 : SinkState) (now2 : O) (fault : Fault)
-        (d new : S)
-        → PutsMore task.output (versions_put task.selection last v) sink sink2 now now2 (Ok tt)
-        → Explained (task.can_give (get_or sources w d)) (task.can_give new)
+    pub source_refused : (sink2 : SinkState) (now2 : O) (fault : Fault) (d new : S)
+        → PutsNext sink2 now2 (Ok tt)
+        → Explained (task.source.can_give (get_or sources w d)) (task.source.can_give new)
         (λ e l. SourceStep {A = VersionData} (Some e) (Err fault) (Some l))
         → RefusesTask task now2 fault
-    source_refused one possible sink2 now2 fault d new p step =
-        let later : List VersionsToCome = map one (set sources w new) in
+    source_refused sink2 now2 fault d new p step =
+        let later : List VersionsToCome = map task.source.one (set sources w new) in
         let b =
         stepped (λ e l. SourceStep {A = VersionData} (Some e) (Err fault) (Some l)) d new step later
-        (give_one task.can_give one possible (set sources w new)) in
+        (give_one task.source.can_give task.source.one task.source.possible (set sources w new)) in
         let q = b.4 in
         let shown : List (Option VersionsToCome) = map Some (set later w b.0) in
         let after : Option VersionsToCome = Some (get_or later w end_whole) in (
@@ -218,12 +221,11 @@ module _ {S O : Type 0} {task : MergeTask S O} {heads : List (Option VersionData
     -- the loop continues
     pub run_more : (nodes2 : List ℕ) (sink2 : SinkState) (now2 : O) (last2 : Option VersionData) (given : Option VersionData) (d new : S)
         (counts2 : Counts) (compared1 : ℕ)
-        → PutsMore task.output (versions_put task.selection last v) sink sink2 now now2 (Ok tt) → last2 ≡ pending_next task.selection last v
-        → Explained (task.can_give (get_or sources w d)) (task.can_give new) (λ e l. SourceStep (Some e) (Ok given) (Some l))
+        → PutsNext sink2 now2 (Ok tt) → last2 ≡ pending_next task.selection last v
+        → Explained (task.source.can_give (get_or sources w d)) (task.source.can_give new) (λ e l. SourceStep (Some e) (Ok given) (Some l))
         → IsTree (set heads w given) nodes2 1 0
         → counts2.read ≡ capped_count (counts.read + 1)
-        → ((put : List VersionData) → counts.written ≡ capped_count (length put) →
-        counts2.written ≡ capped_count (length (put ++ versions_put task.selection last v)))
+        → CountsMore (versions_put task.selection last v) counts.written counts2.written
         → (is_repeated : Bool) → OnTrue is_repeated (repeats.taken ≡ Some w) → counts.compared ≤ compared1 → compared1 ≤ counts.compared + 1
         → (is_repeated ≡ false → IfSome last (λ _. capped_count (counts.compared + 1) ≤ compared1))
         → ((depth : ℕ) → length (set heads w given) ≤ 2 ^ depth → counts2.compared ≤ compared1 + depth)
