@@ -70,9 +70,7 @@ fn read_args(rt: &HostRuntime) -> io::Result<Vec<String>> {
 /// The refusal if the arguments aren't available: one isn't UTF-8, or the program is out of memory.
 fn refuse_args(rt: &HostRuntime, error: &io::Error) -> Refusal<'static> {
     match faulty_argument(rt) {
-        Ok(argument) if error.kind() != io::ErrorKind::OutOfMemory => Refusal::WordsNotUtf8(
-            argument,
-        ),
+        Ok(arg) if error.kind() != io::ErrorKind::OutOfMemory => Refusal::WordsNotUtf8(arg),
         _ => Refusal::Memory(AllocError),
     }
 }

@@ -62,7 +62,7 @@ pub use osm_model::{Kind, Memory, Version};
 pub use plan::{Plan, read_plan};
 pub use plan_fault::{PlanFault, PlanReason};
 pub use plan_line::PlanWrite;
-pub use request::{Command, FileRequest, RequestFault};
+pub use request::{Command, FileEnd, FileRequest, RequestFault};
 pub use retried::{read_retried, write_retried};
 pub use run::run_selected;
 pub use run_summary::{RunSummary, RunTally};

@@ -98,14 +98,12 @@ fn line_of(
         Ok(file) => format!(in alloc; "{}\n", file.checked.report),
         Err(refusal) if request.json => {
             let (place, reason) = refusal.cause();
-            format!(in alloc;
-                "{}\n",
-                RefusedJson {
-                    name,
-                    place,
-                    reason
-                }
-            )
+            let json = RefusedJson {
+                name,
+                place,
+                reason,
+            };
+            format!(in alloc; "{json}\n")
         }
         Err(_) => return Ok(None),
     };

@@ -179,10 +179,8 @@ fn regular_files<'f, I: Read + Drop, M: Watch>(
     alloc: Global,
     inputs: &'f [OpenInput<'_, I, M>],
 ) -> Result<Vec<&'f RegularInput<M>>, AllocError> {
-    inputs
-        .iter()
-        .filter_map(|input| input.regular())
-        .collect(alloc)
+    let files = inputs.iter().filter_map(|input| input.regular());
+    files.collect(alloc)
 }
 
 /// The size of all inputs in bytes, if it is known.

@@ -3,14 +3,14 @@ ghost use Rattle.std.specs.Prelude.{◌≡◌};
 
 use super::files::{STANDARD_INPUT, Stamp, open};
 use super::part::FileId;
-use super::request::{FileEnd, InputFiles};
+use super::request::InputFiles;
 use super::target::STANDARD;
 use super::{Host, Refusal};
 use either::{Either, Left, Right};
 use osm_files::{
     Broken, EndMarked, Fault, FromFile, FromRead, ReadAt, Reason, WholeFile, WholeLines,
 };
-use osm_mirror::read_retried;
+use osm_mirror::{FileEnd, read_retried};
 use std::alloc::Global;
 use std::cell::Cell;
 use std::fs::File;

@@ -69,10 +69,8 @@ pub(super) fn folder_of(name: &str) -> &str {
 
 /// The identity of the regular file `name`, or of the one that a link of that name leads to.
 pub(super) fn id_of_regular(rt: &impl Host, name: &str) -> Option<FileId> {
-    let metadata = fs::metadata(rt, name)
-        .ok()
-        .filter(|metadata| metadata.is_file());
-    metadata.map(|metadata| FileId::of(&metadata))
+    let metadata = fs::metadata(rt, name).ok()?;
+    metadata.is_file().then(|| FileId::of(&metadata))
 }
 
 /// The name of an OUT.part that this run has locked.
@@ -179,12 +177,10 @@ fn create(rt: &impl Host, name: &str, output: &str) -> io::Result<Option<(File, 
 fn existing(rt: &impl Host, output: &str) -> io::Result<Option<Metadata>> {
     match fs::metadata(rt, output) {
         Ok(old) => Ok(Some(old).filter(|old| old.is_file())),
-        Err(error)
-            if matches!(
-                error.kind(),
-                ErrorKind::NotFound | ErrorKind::FilesystemLoop
-            ) => Ok(None),
-        Err(error) => Err(error),
+        Err(error) => match error.kind() {
+            ErrorKind::NotFound | ErrorKind::FilesystemLoop => Ok(None),
+            _ => Err(error),
+        },
     }
 }
 

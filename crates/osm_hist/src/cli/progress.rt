@@ -111,9 +111,10 @@ impl<'m, 'a, C: Clock, E: Write + IsTerminal> Watch for &'m Meter<'a, C, E> {
             return self.write(before, &format_args!("{read} MB"), after);
         };
         let percent = u128::from(bytes).saturating_mul(100) / u128::from(size).max(1);
+        let all = size / MEGABYTE;
         self.write(
             before,
-            &format_args!("{percent} %, {read} of {} MB", size / MEGABYTE),
+            &format_args!("{percent} %, {read} of {all} MB"),
             after,
         );
     }

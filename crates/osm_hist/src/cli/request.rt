@@ -6,7 +6,7 @@ use super::target::{STANDARD, Target};
 use super::{Host, Refusal};
 use clap::ArgMatches;
 use osm_files::Format;
-use osm_mirror::{Command, FileRequest, FilesRun, Shard, read_names};
+use osm_mirror::{Command, FileEnd, FileRequest, FilesRun, Shard, read_names};
 use std::alloc::Global;
 use std::io::Read;
 
@@ -48,7 +48,7 @@ impl<'a> Request<'a> {
         let files = InputFiles {
             names,
             list: None,
-            end: FileEnd::of_matches(args),
+            end: FileEnd::required(args.get_flag("whole"), args.get_flag("ended")),
             keeps_empty: args.get_str("shard").is_some(),
         };
         Ok(Request {
@@ -197,36 +197,4 @@ pub(super) fn read_list<'a, I: Read + Drop>(
     };
     let text = String::from_utf8(bytes).map_err(|_| Refusal::ListNotUtf8 { name })?;
     Ok((text, id))
-}
-
-/// How an OPL file must end.
-#[derive(Clone, Copy, Debug, PartialEq, Eq)]
-pub(super) enum FileEnd {
-    /// The last line may lack its line feed.
-    Any,
-    /// The last line must have a line feed, as `--whole` requires.
-    LineFeed,
-    /// The last line must be the end mark, as `--ended` requires of a file that isn't regular.
-    Mark,
-}
-
-impl FileEnd {
-    /// The end for which the arguments ask.
-    fn of_matches(args: &ArgMatches<'_>) -> FileEnd {
-        if args.get_flag("ended") {
-            FileEnd::Mark
-        } else if args.get_flag("whole") {
-            FileEnd::LineFeed
-        } else {
-            FileEnd::Any
-        }
-    }
-
-    /// The end of a file. A regular file needs no mark.
-    pub(super) fn of_file(self, is_regular: bool) -> FileEnd {
-        match self {
-            FileEnd::Mark if is_regular => FileEnd::LineFeed,
-            end => end,
-        }
-    }
 }
