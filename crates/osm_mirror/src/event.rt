@@ -57,14 +57,16 @@ impl<F> MirrorEvent<F> {
     }
 }
 
-/// The events of `steps`. `files` has the bytes that each step takes. They name the mirrors that the steps name.
+/// The events of `steps`, which name some of `mirrors` mirrors, as their events do. `files` has the bytes that each step
+/// takes.
 pub fn events_of<'f>(
     alloc: Global,
+    mirrors: usize,
     steps: &[Step],
     files: &'f [Vec<u8>],
 ) -> Result<Vec<Event<'f>>, AllocError>
-    ensures { IfOk result (λ events. (mirrors : ℕ) → All (IsWithin mirrors) steps.now
-        → All (IsWithin mirrors) events.items) }
+    requires { All (IsWithin mirrors) steps.now }
+    ensures { IfOk result (λ events. All (IsWithin mirrors) events.items) }
 {
     let mut events = Vec::new(alloc);
     'steps: for (step, file) in steps.iter().zip(files) {

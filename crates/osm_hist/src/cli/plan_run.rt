@@ -1,7 +1,6 @@
 //! Runs of a plan. The mirrors take files and pass on what they hold. At the end the run writes the files of the plan.
-ghost use Rattle.std.specs.Prelude.{ℕ, ◌<◌, length, IfOk};
+ghost use Rattle.std.specs.Prelude.{◌<◌, length, IfOk};
 ghost use Rattle.std.specs.List.{All};
-ghost use Rattle.osm_mirror.specs.Event.{IsWithin};
 ghost use Rattle.osm_mirror.specs.Plan.{NamesItsMirrors};
 
 use super::files::{open, read};
@@ -11,8 +10,7 @@ use super::target::{STANDARD, Target};
 use super::{Host, hint, print};
 use clap::ArgMatches;
 use osm_files::{Fault, Output, Reason, ToWrite, write_all};
-use osm_mirror::{Event, Fleet, Plan, PlanWrite, Reply, Step, read_plan};
-use std::alloc::{AllocError, Global};
+use osm_mirror::{Fleet, Plan, PlanWrite, Replies, Reply, Step, events_of, read_plan};
 use std::io::{IsTerminal, Write};
 
 /// Runs a plan and returns the exit status. It prints the reply to each step, and then makes the files of the write
@@ -71,7 +69,7 @@ fn run_lines<'p, O: Write>(
     let mut fleet = Fleet::new(alloc, plan.mirrors.as_slice())?;
     let events = events_of(alloc, plan.mirrors.len(), steps, files.as_slice())?;
     let replies = fleet.run(events.as_slice())?;
-    print(out, &lines_of(alloc, replies.as_slice())?)?;
+    print(out, &format!(in alloc; "{}", Replies(replies.as_slice()))?)?;
     let refused = replies
         .iter()
         .filter(|reply| matches!(reply, Reply::Refused(_)))
@@ -117,43 +115,6 @@ fn read_taken<'p>(rt: &impl Host, steps: &'p [Step]) -> Result<Vec<Vec<u8>>, Ref
         files.push(bytes)?;
     }
     Ok(files)
-}
-
-/// The events of `steps`. `files` has the bytes that each step takes.
-fn events_of<'f>(
-    alloc: Global,
-    mirrors: usize,
-    steps: &[Step],
-    files: &'f [Vec<u8>],
-) -> Result<Vec<Event<'f>>, AllocError>
-    requires { All (IsWithin mirrors) steps.now }
-    ensures { IfOk result (λ events. All (IsWithin mirrors) events.items) }
-{
-    let mut events = Vec::new(alloc);
-    'steps: for (step, file) in steps.iter().zip(files) {
-        events.push(event_of(step, file.as_slice()))?;
-    }
-    Ok(events)
-}
-
-/// The event of `step`. `file` has the bytes that the step takes.
-fn event_of<'f>(step: &Step, file: &'f [u8]) -> Event<'f>
-    ensures { (mirrors : ℕ) → IsWithin mirrors step.now → IsWithin mirrors result }
-{
-    match *step {
-        Step::Take { mirror, .. } => Event::Take { mirror, file },
-        Step::Pass { from, to, format } => Event::Pass { from, to, format },
-        Step::Restart { mirror, format } => Event::Restart { mirror, format },
-    }
-}
-
-/// The lines of the replies to the events, numbered from 1.
-fn lines_of(alloc: Global, replies: &[Reply]) -> Result<String, AllocError> {
-    let mut lines = String::new(alloc);
-    for (index, reply) in replies.iter().enumerate() {
-        writeln!(lines, "{} {reply}", index + 1)?;
-    }
-    Ok(lines)
 }
 
 /// Makes the files of the write lines, in their order.
