@@ -63,10 +63,11 @@ none_left heads nodes w t top at_w i =
 
 -- If no head is left, the merge is done up to the end of its file.
 pub run_done : {S O : Type 0} {task : MergeTask S O} {heads : List (Option VersionData)} {nodes : List ℕ} {sources : List S}
-    {sink : SinkState} {now : O} {last : Option VersionData} {repeats : Repeats} (counts : Counts) (w : ℕ)
-    → IsRunning task heads nodes sources sink now last counts repeats → w ≡ get_or nodes 1 0 → get_or heads w None ≡ None
+    {sink : SinkState} {now : O} {last : Option VersionData} {counts : Counts} {repeats : Repeats}
+    (r : IsRunning task heads nodes sources sink now last counts repeats) (w : ℕ) → w ≡ get_or nodes 1 0 → get_or heads w None ≡ None
     → IsDone task last sink now counts
-run_done {task = task} {heads = heads} {nodes = nodes} {sources = sources} {last = last} {repeats = repeats} counts w r top at_w =
+run_done {task = task} {heads = heads} {nodes = nodes} {sources = sources} {last = last} {counts = counts} {repeats = repeats} r w
+    top at_w =
     let none = none_left heads nodes w r.tree top at_w in
     let q = r.run (map task.source.one sources) (give_one task.source.can_give task.source.one task.source.possible sources) in
     record {
