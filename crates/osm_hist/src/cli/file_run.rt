@@ -7,8 +7,7 @@ use super::target::Target;
 use super::{Host, Refusal};
 use osm_files::{Clear, Fault, Reason, ToWrite};
 use osm_mirror::{
-    Counts, NoProgress, RunFile, RunSummary, RunTally, ShardRun, run_files as run_open_files,
-    run_shard,
+    Counts, NoProgress, RunFile, RunSummary, ShardRun, run_files as run_open_files, run_shard,
 };
 use std::alloc::{AllocError, Global};
 use std::io::{BufWriter, IsTerminal, Read, Write};
@@ -85,8 +84,7 @@ impl<'a, 'q, 'f, 'r, 'e, R: Host, E: Write + IsTerminal> Runner<'a, 'q, 'f, 'r, 
         }
         let mut destination = self.target.open(self.rt, ids.as_slice(), out)?;
         self.meter.size.set(size_of(inputs));
-        let mut tally = RunTally::new();
-        let written = self.write(inputs, &mut destination, &mut tally);
+        let written = self.write(inputs, &mut destination);
         let counted = self.unless_changed(inputs, written, destination.error);
         self.meter.end(counted.as_ref().ok());
         let counts = destination.finish(self.rt, counted, self.asked.fsync)?;
@@ -95,7 +93,7 @@ impl<'a, 'q, 'f, 'r, 'e, R: Host, E: Write + IsTerminal> Runner<'a, 'q, 'f, 'r, 
                 command: self.asked.command,
                 inputs: inputs.len(),
                 counts,
-                tally,
+                tally: self.meter.tally.get(),
                 milliseconds: self.meter.milliseconds(),
                 output: self.target.name(),
             });
@@ -109,13 +107,13 @@ impl<'a, 'q, 'f, 'r, 'e, R: Host, E: Write + IsTerminal> Runner<'a, 'q, 'f, 'r, 
         &self,
         inputs: &[OpenInput<'_, I, M>],
         writer: W,
-        tally: &mut RunTally,
     ) -> Result<Counts, Fault> {
         let alloc = self.rt.alloc();
         let Ok(buffer) = BufWriter::with_capacity(alloc, BUFFER, writer) else {
             return Err(Fault::at(0, 0, Reason::Memory));
         };
-        let (run, mut output) = (self.asked.run, ToWrite::new(buffer));
+        let (run, mut progress) = (self.asked.run, &self.meter);
+        let mut output = ToWrite::new(buffer);
         if let Some(shard) = self.asked.shard {
             let files = regular_files(alloc, inputs)?;
             let run = ShardRun {
@@ -123,13 +121,13 @@ impl<'a, 'q, 'f, 'r, 'e, R: Host, E: Write + IsTerminal> Runner<'a, 'q, 'f, 'r, 
                 selection: run.selection,
                 format: run.format,
             };
-            return run_shard(alloc, run, files.as_slice(), &mut output, tally);
+            return run_shard(alloc, run, files.as_slice(), &mut output, &mut progress);
         }
         let files = files_of_run(alloc, inputs)?;
-        if self.asked.summary {
-            run_open_files(alloc, run, files, &mut output, tally)
+        if self.asked.progress || self.asked.summary {
+            run_open_files(alloc, run, files, &mut output, &mut progress)
         } else {
-            // A run without a summary isn't observed.
+            // A run without reports isn't observed.
             run_open_files(alloc, run, files, &mut output, &mut NoProgress)
         }
     }

@@ -1,6 +1,6 @@
 //! Reports on standard error during a run and after it.
 use super::input::Watch;
-use osm_mirror::Counts;
+use osm_mirror::{Counts, Progress, Relation, RunTally, Version};
 use std::cell::{Cell, RefCell};
 use std::fmt::Display;
 use std::io::{IsTerminal, Write};
@@ -31,6 +31,8 @@ pub(super) struct Meter<'a, C, E> {
     last: Cell<Duration>,
     /// The number of bytes that the run read.
     bytes: Cell<u64>,
+    /// What the run wrote.
+    pub(super) tally: Cell<RunTally>,
     /// The number of the input whose read failed last.
     failed: Cell<Option<usize>>,
     /// The size of all input files in bytes, if it is known.
@@ -50,6 +52,7 @@ impl<'a, C: Clock, E: Write + IsTerminal> Meter<'a, C, E> {
             start,
             last: Cell::new(start),
             bytes: Cell::new(0),
+            tally: Cell::new(RunTally::new()),
             failed: Cell::new(None),
             size: Cell::new(None),
         }
@@ -85,6 +88,28 @@ impl<'a, C: Clock, E: Write + IsTerminal> Meter<'a, C, E> {
     /// The time since the run began, in milliseconds.
     pub(super) fn milliseconds(&self) -> u128 {
         now(self.clock).saturating_sub(self.start).as_millis()
+    }
+}
+
+/// If a run begins anew, its bytes and versions count anew.
+impl<'m, 'a, C, E> Progress for &'m Meter<'a, C, E> {
+    fn begin(&mut self) {
+        self.bytes.set(0);
+        self.tally.set(RunTally::new());
+    }
+
+    #[inline(always)]
+    fn read(&mut self, version: &Version, relation: Relation) {
+        let mut tally = self.tally.get();
+        tally.read(version, relation);
+        self.tally.set(tally);
+    }
+
+    #[inline(always)]
+    fn written(&mut self, version: &Version) {
+        let mut tally = self.tally.get();
+        tally.written(version);
+        self.tally.set(tally);
     }
 }
 
