@@ -57,8 +57,8 @@ impl<F> MirrorEvent<F> {
     }
 }
 
-/// The events of `steps`, which name some of `mirrors` mirrors, as their events do. `files` has the bytes that each step
-/// takes.
+/// The events of `steps`, which name some of `mirrors` mirrors, as their events do. `files` has the bytes that each
+/// step takes.
 pub fn events_of<'f>(
     alloc: Global,
     mirrors: usize,
