@@ -368,38 +368,41 @@ fn moment_seven(rt: HostRuntime) {
     assert_rows(&rt, MOMENTS);
 }
 
-const PERIOD: &[u8] =
+const THREE_VERSIONS: &[u8] =
     b"n1 v1 t1970-01-01T00:00:10Z x1 y1\nn1 v2 t1970-01-01T00:00:20Z x2 y1\nn1 v3 dD t1970-01-01T00:00:30Z\n";
 
-const OTHER_PERIOD: &[u8] =
-    b"n2 v1 t1970-01-01T00:00:20Z x1 y1\nn2 v2 t1970-01-01T00:00:20Z x2 y1\n";
+const SAME_TIMES: &[u8] = b"n2 v1 t1970-01-01T00:00:20Z x1 y1\nn2 v2 t1970-01-01T00:00:20Z x2 y1\n";
 
 const PERIODS: &[Row] = &[
     (
         Command::PeriodFilter { from: 20, to: 30 },
-        &[PERIOD],
+        &[THREE_VERSIONS],
         b"n1 v2 dV c0 t1970-01-01T00:00:20Z i0 u T x2 y1\n",
     ),
     (
         Command::PeriodFilter { from: 15, to: 31 },
-        &[PERIOD],
+        &[THREE_VERSIONS],
         b"n1 v1 dV c0 t1970-01-01T00:00:10Z i0 u T x1 y1\nn1 v2 dV c0 t1970-01-01T00:00:20Z i0 u T x2 y1\n\
           n1 v3 dD c0 t1970-01-01T00:00:30Z i0 u T x y\n",
     ),
     (
         Command::PeriodFilter { from: 31, to: 40 },
-        &[PERIOD],
+        &[THREE_VERSIONS],
         b"n1 v3 dD c0 t1970-01-01T00:00:30Z i0 u T x y\n",
     ),
-    (Command::PeriodFilter { from: 5, to: 10 }, &[PERIOD], b""),
+    (
+        Command::PeriodFilter { from: 5, to: 10 },
+        &[THREE_VERSIONS],
+        b"",
+    ),
     (
         Command::PeriodFilter { from: 20, to: 21 },
-        &[OTHER_PERIOD],
+        &[SAME_TIMES],
         b"n2 v1 dV c0 t1970-01-01T00:00:20Z i0 u T x1 y1\nn2 v2 dV c0 t1970-01-01T00:00:20Z i0 u T x2 y1\n",
     ),
     (
         Command::PeriodFilter { from: 21, to: 22 },
-        &[OTHER_PERIOD],
+        &[SAME_TIMES],
         b"n2 v2 dV c0 t1970-01-01T00:00:20Z i0 u T x2 y1\n",
     ),
     (
