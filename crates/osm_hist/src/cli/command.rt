@@ -41,7 +41,9 @@ pub(super) fn command<'a>(alloc: Global) -> Made<'a> {
         .no_binary_name(true)
         .args_conflicts_with_subcommands(true)
         .bin_name("osm_hist")?
-        .arg(arg!(in alloc; --explain <REASON> "Explains a reason of refusals, and what to do"))?
+        .arg(
+            arg!(in alloc; --explain <REASON> "Explains why a file is rejected, by its reason, and what to do"),
+        )?
         .subcommand(merge_command(alloc)?)?
         .subcommand(apply_command(alloc)?)?
         .subcommand(time_filter_command(alloc)?)?
@@ -108,7 +110,7 @@ fn check_command<'a>(alloc: Global) -> Made<'a> {
     let command = Command::new(alloc, "check")
         .about("Prints a file's format, its versions and objects, and whether it is sorted")
         .after_help(
-            "Of several files each gets a line that begins with its name; where one is refused, the others are \
+            "Of several files each gets a line that begins with its name; where one is rejected, the others are \
             still checked.\n\n\
             Memory: a sorted file is read one version at a time. A file that isn't sorted is held in memory, and so \
             is a pipe, which can't be read twice. With --sorted none is held.\n\n\
@@ -120,7 +122,7 @@ fn check_command<'a>(alloc: Global) -> Made<'a> {
     with_input(alloc, command.arg(sorted_arg(alloc))?)?
         .arg(arg!(in alloc; --summary).help(summary))?
         .arg(
-            arg!(in alloc; --json "Prints an object of JSON for each file, also for a refused one"),
+            arg!(in alloc; --json "Prints an object of JSON for each file, also for a rejected one"),
         )?
         .arg(files_arg(alloc, files)?)
 }
@@ -139,7 +141,7 @@ fn plan_command<'a>(alloc: Global) -> Made<'a> {
             Example: osm_hist plan mirrors.plan",
         )
         .arg(arg!(in alloc; plan: <PLAN> "The file of the plan"))?
-        .arg(arg!(in alloc; --strict "Writes nothing if an event is refused"))?
+        .arg(arg!(in alloc; --strict "Writes nothing if an event fails"))?
         .arg(hints_arg(alloc))
 }
 
@@ -165,8 +167,8 @@ fn with_output<'a>(alloc: Global, command: Command<'a>) -> Made<'a> {
 
 /// Adds the options of a command that reads files.
 fn with_input<'a>(alloc: Global, command: Command<'a>) -> Made<'a> {
-    let whole = "Refuses an OPL file whose last line has no line feed, since it may be cut";
-    let ended = "Refuses OPL from a pipe that doesn't end with the line \"# end\"";
+    let whole = "Rejects an OPL file whose last line has no line feed, since it may be cut";
+    let ended = "Rejects OPL from a pipe that doesn't end with the line \"# end\"";
     let list = "Reads the names of the files from LIST, each ended by NUL; - is standard input";
     command
         .arg(arg!(in alloc; --whole).help(whole))?
@@ -182,9 +184,9 @@ fn files_arg<'a>(alloc: Global, help: &'a str) -> Result<Arg<'a>, AllocError> {
 }
 
 fn sorted_arg<'a>(alloc: Global) -> Arg<'a> {
-    arg!(in alloc; --sorted "Refuses a file that isn't sorted, so that none is held in memory")
+    arg!(in alloc; --sorted "Rejects a file that isn't sorted, so that none is held in memory")
 }
 
 fn hints_arg<'a>(alloc: Global) -> Arg<'a> {
-    arg!(in alloc; --hints "Says after a refusal what to do, as on a terminal")
+    arg!(in alloc; --hints "Says after a failure what to do, as on a terminal")
 }
