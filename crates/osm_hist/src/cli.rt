@@ -133,7 +133,9 @@ fn run_request<I: Read + Drop, O: Write + IsTerminal, E: Write + IsTerminal>(
         return check_files(rt, &request, input, out, err, hints);
     };
     match run_files(rt, run, &request.files, input, out, err) {
-        Ok(()) => {
+        Ok(has_more_o5) => {
+            let more = format!(in rt.alloc(); "{}", hint::MORE_O5).ok();
+            hint::advise(more.filter(|_| has_more_o5), err, hints);
             let hint = hint::after_output(rt.alloc(), run.output, run.run.format);
             hint::advise(hint, err, hints);
             0

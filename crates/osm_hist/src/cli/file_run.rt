@@ -10,12 +10,14 @@ use osm_mirror::{
     Counts, NoProgress, RunFile, RunSummary, ShardRun, run_files as run_open_files, run_shard,
 };
 use std::alloc::{AllocError, Global};
+use std::cell::Cell;
 use std::io::{BufWriter, IsTerminal, Read, Write};
 
 /// The size of the buffer of an output, in bytes.
 const BUFFER: usize = 65536;
 
 /// Makes OUT from files. A file is written as OUT.part, which becomes OUT at the end and is removed after a refusal.
+/// Returns whether o5 files are the larger part of what was sharded.
 pub(super) fn run_files<'a, I: Read + Drop, O: Write, E: Write + IsTerminal>(
     rt: &impl Host,
     asked: &FileRun<'a>,
@@ -23,15 +25,17 @@ pub(super) fn run_files<'a, I: Read + Drop, O: Write, E: Write + IsTerminal>(
     mut input: Option<I>,
     out: &mut O,
     err: &mut E,
-) -> Result<(), Refusal<'a>> {
+) -> Result<bool, Refusal<'a>> {
     let run = Runner {
         rt,
         asked,
         files,
         target: Target::of_arg(rt, asked.output),
         meter: Meter::new(rt, err, asked.progress),
+        has_more_o5: Cell::new(false),
     };
-    run.make(&mut input, &mut *out)
+    let made = run.make(&mut input, &mut *out);
+    made.map(|()| run.has_more_o5.get())
 }
 
 /// A run over files, with its request and its reports.
@@ -42,6 +46,8 @@ struct Runner<'a, 'q, 'f, 'r, 'e, R, E> {
     files: &'f InputFiles<'a>,
     target: Target<'a>,
     meter: Meter<'e, R, E>,
+    /// Whether o5 files are the larger part of what is sharded.
+    has_more_o5: Cell<bool>,
 }
 
 /// The inputs of a run, whose reads the meter watches.
@@ -65,7 +71,7 @@ impl<'a, 'q, 'f, 'r, 'e, R: Host, E: Write + IsTerminal> Runner<'a, 'q, 'f, 'r, 
             inputs.push(opened)?;
         }
         if is_shard {
-            check_shardable(inputs.as_slice())?;
+            self.has_more_o5.set(check_shardable(inputs.as_slice())?);
         }
         Ok(inputs)
     }

@@ -18,6 +18,10 @@ const TOO_MANY_OPEN: [i32; 2] = [23, 24];
 const LESS_MEMORY: &str =
     "--sorted holds no file in memory; osm_hist sort --output SORTED FILE sorts a regular file first";
 
+/// The hint if o5 files are the larger part of what was sharded.
+pub(super) const MORE_O5: &str =
+    "each process reads o5m and o5c files whole, and they are the larger part: write them as OPL before";
+
 /// Reports a refusal and returns the exit status. A hint follows if `is_asked`, or if standard error is a terminal.
 pub(super) fn report<E: Write + IsTerminal>(
     rt: &impl Host,

@@ -70,10 +70,7 @@ fn run_lines<'p, O: Write>(
     let events = events_of(alloc, plan.mirrors.len(), steps, files.as_slice())?;
     let replies = fleet.run(events.as_slice())?;
     print(out, &format!(in alloc; "{}", Replies(replies.as_slice()))?)?;
-    let refused = replies
-        .iter()
-        .filter(|reply| matches!(reply, Reply::Refused(_)))
-        .count();
+    let refused = replies.iter().filter(|it| **it != Reply::Taken).count();
     if refused == 0 || !strict {
         write_files(rt, &fleet, plan.writes.as_slice(), out)?;
     }

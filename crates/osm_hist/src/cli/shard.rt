@@ -2,7 +2,7 @@
 use super::input::{OpenInput, Watch};
 use super::target::STANDARD;
 use super::{Host, Refusal};
-use osm_files::{Broken, ReadAt};
+use osm_files::ReadAt;
 use std::fs;
 use std::io::Read;
 
@@ -25,34 +25,32 @@ pub(super) fn refuse_irregular<'a>(rt: &impl Host, names: &[&'a str]) -> Result<
 }
 
 /// Refuses open files that can't be sharded. The system has to know the size of each, and at least one has to be OPL. A
-/// file of `/proc` has bytes, though its size is 0.
+/// file of `/proc` has bytes, though its size is 0. Returns whether o5 files are the larger part of the input.
 pub(super) fn check_shardable<'a, I: Read + Drop, M: Watch>(
     inputs: &[OpenInput<'a, I, M>],
-) -> Result<(), Refusal<'a>> {
-    let mut has_opl = false;
+) -> Result<bool, Refusal<'a>> {
+    let (mut has_opl, mut opl, mut o5) = (false, 0_u64, 0_u64);
     for input in inputs {
-        let (name, code) = (input.name, None);
-        let Some(file) = input.regular() else {
+        let (name, code, mut first) = (input.name, None, [0u8; 1]);
+        let (Some(file), Some(size)) = (input.regular(), input.size()) else {
             return Err(Refusal::CannotRead { name, code });
         };
-        match first_byte(file) {
-            Ok(Some(_)) if input.size() == Some(0) => {
-                input.refuse_changed()?;
-                return Err(Refusal::NotRegular { name });
-            }
-            Ok(first) => has_opl |= first != Some(O5_START),
-            Err(Broken) => return Err(Refusal::CannotRead { name, code }),
+        let Ok(count) = file.read_at(&mut first, 0) else {
+            return Err(Refusal::CannotRead { name, code });
+        };
+        if count > 0 && size == 0 {
+            input.refuse_changed()?;
+            return Err(Refusal::NotRegular { name });
+        }
+        if count > 0 && first[0] == O5_START {
+            o5 = o5.saturating_add(size);
+        } else {
+            has_opl = true;
+            opl = opl.saturating_add(size);
         }
     }
     if !has_opl {
         return Err(Refusal::ShardWithoutOpl);
     }
-    Ok(())
-}
-
-/// The first byte of a file, if there is one.
-fn first_byte<F: ReadAt>(file: &F) -> Result<Option<u8>, Broken> {
-    let mut byte = [0u8; 1];
-    let count = file.read_at(&mut byte, 0)?;
-    Ok(Some(byte[0]).filter(|_| count > 0))
+    Ok(o5 > opl)
 }
