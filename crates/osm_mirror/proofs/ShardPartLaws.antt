@@ -139,9 +139,9 @@ all_kept (v ∷ versions) = ap (λ vs. v ∷ vs) (all_kept versions)
 -- a file isn't cut after its end
 cut_within : (all : List ℕ) (bound : Object) (start : ℕ) → IsUnderBefore all bound start → start ≤ length all
 cut_within all bound start under = ⊎_elim
-    (λ behind. absurd (
+    (λ later. absurd (
     let none : drop (length all) all ≡ [] = nil_from_length (drop (length all) all) (omega (arith, length-drop (length all) all)) in
-    false≢true (under (length all) behind (end_begins all) [] (subst (λ (b : List ℕ). OplFile b []) (sym none) tt))))
+    false≢true (under (length all) later (end_begins all) [] (subst (λ (b : List ℕ). OplFile b []) (sym none) tt))))
     (λ fine. fine) (cases_lt (length all) start)
 
 -- ---- one file
