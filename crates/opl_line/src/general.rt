@@ -7,8 +7,8 @@ ghost use Rattle.opl_line.specs.Within.{AreWithin};
 
 mod content;
 mod field;
-pub(crate) mod item;
-pub(crate) mod text;
+mod item;
+mod text;
 
 use crate::OplReason;
 use crate::bytes::cut::Delimiter;

@@ -2,7 +2,9 @@
 #![tactic(auto)]
 
 mod bytes;
+mod escape;
 mod general;
+mod item;
 pub mod laws;
 mod line;
 mod number;

@@ -7,13 +7,10 @@ ghost use Rattle.opl_line.specs.Item as spec;
 use super::text::read_text;
 use crate::OplReason;
 use crate::bytes::cut::Delimiter;
+use crate::item::{USUAL_ITEM, kind_of_letter};
 use crate::number::read_id;
 use osm_model::{Kind, Member, Tag};
 use std::alloc::Global;
-
-/// The number of bytes of a usual item and its comma, such as `n123456789,`. The capacity of a new list is the number
-/// of usual items that its content has space for. A content of commas has more items, but can't ask for much memory.
-pub(crate) const USUAL_ITEM: usize = 11;
 
 /// An item of a list.
 pub(crate) trait Item: Drop + Sized {
@@ -116,18 +113,6 @@ pub(crate) fn split_kind(text: &[u8]) -> Option<(Kind, &[u8])>
 {
     let (letter, rest) = text.split_first()?;
     Some((kind_of_letter(*letter)?, rest))
-}
-
-/// The kind with the letter `letter`: `n`, `w` or `r`.
-pub(crate) fn kind_of_letter(letter: u8) -> Option<Kind>
-    ensures { result ≡ spec.kind_of_letter letter }
-{
-    match letter {
-        b'n' => Some(Kind::Node),
-        b'w' => Some(Kind::Way),
-        b'r' => Some(Kind::Relation),
-        _ => None,
-    }
 }
 
 /// The id of an item, from its digits with or without a minus sign.

@@ -10,6 +10,7 @@ ghost use Rattle.opl_line.specs.Text as spec;
 
 use crate::OplReason;
 use crate::bytes::cut::Delimiter;
+use crate::escape::scalar_of;
 use osm_model::Text;
 use std::alloc::Global;
 
@@ -93,24 +94,4 @@ fn find_escape(bytes: &[u8]) -> Option<usize>
     ensures { result ≡ position (λ byte. not (spec.is_literal byte)) bytes.now }
 {
     bytes.iter().position(|byte| must_be_escaped(*byte))
-}
-
-/// The character whose code point is written in 1 to 8 hexadecimal digits. It isn't U+0000.
-pub(crate) fn scalar_of(digits: &[u8]) -> Option<char>
-    ensures { result ≡ spec.scalar_of digits.now }
-{
-    if digits.is_empty() || digits.len() > 8 {
-        return None;
-    }
-    let mut code: u32 = 0;
-    for digit in digits {
-        let Some(value) = char::from(*digit).to_digit(16) else {
-            return None;
-        };
-        code = 16 * code + value;
-    }
-    if code == 0 {
-        return None;
-    }
-    char::from_u32(code)
 }

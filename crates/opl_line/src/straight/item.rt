@@ -9,7 +9,7 @@ ghost use Rattle.osm_model.specs.Line.{list_text, tag_text, reference_text, memb
 
 use super::part::parse_id;
 use super::text::parse_text;
-use crate::general::item::{USUAL_ITEM, kind_of_letter};
+use crate::item::{USUAL_ITEM, kind_of_letter};
 use osm_model::{Kind, Member, Spare, Tag};
 use std::alloc::Global;
 

@@ -8,7 +8,7 @@ ghost use Rattle.opl_line.specs.Straight.{AreRaw};
 
 use crate::bytes::cut::Delimiter;
 use crate::bytes::scan::{ByteClass, find};
-use crate::general::text::scalar_of;
+use crate::escape::scalar_of;
 use osm_model::{Text, strip_escaped};
 use std::alloc::Global;
 use std::simd::prelude::*;
