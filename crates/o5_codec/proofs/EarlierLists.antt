@@ -7,9 +7,9 @@ use Rattle.osm_model.specs.declared.members.Member.{Member}
 use Rattle.osm_model.specs.declared.body.Body.{Body}
 use Rattle.osm_model.specs.declared.body.Body.TheVariants.{Deleted, Node, Way, Relation}
 use Rattle.osm_model.specs.Data.{VersionData, normal_body}
-use Rattle.o5_codec.specs.declared.segment.Segment.{Segment}
-use Rattle.o5_codec.specs.declared.segment.ListsSeen.{ListsSeen}
-use Rattle.o5_codec.specs.declared.segment.ListsSeen.TheVariants.{Neither, References, NodeMembers}
+use Rattle.o5_codec.specs.declared.read.segment.Segment.{Segment}
+use Rattle.o5_codec.specs.declared.read.segment.ListsSeen.{ListsSeen}
+use Rattle.o5_codec.specs.declared.read.segment.ListsSeen.TheVariants.{Neither, References, NodeMembers}
 use Rattle.o5_codec.specs.Body.{with_section, with_member}
 use Rattle.o5_codec.specs.Spelling.{ItemsInAll, ReferenceAtFront, MemberAtFront, BodyInAll, SpellsSet}
 use Rattle.o5_codec.specs.Earlier.{references, members_of, node_id, node_ids, is_some_of, has_references, has_node_members}

@@ -5,7 +5,7 @@ use Rattle.std.proofs.lemmas.Bool.Decides.{nat_tests}
 use Rattle.std.proofs.lemmas.List.{append-nil}
 use Rattle.o5_codec.specs.declared.reason.O5Reason.{O5Reason}
 use Rattle.o5_codec.specs.declared.reason.O5Reason.TheVariants.{Memory}
-use Rattle.o5_codec.specs.declared.segment.Segment.{Segment}
+use Rattle.o5_codec.specs.declared.read.segment.Segment.{Segment}
 use Rattle.o5_codec.specs.Results.{and_then}
 use Rattle.o5_codec.specs.Segment.{ReadStep}
 use Rattle.o5_codec.specs.Items.{items_up_to, items_at, and_one_more}

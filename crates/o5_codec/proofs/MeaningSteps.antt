@@ -1,7 +1,7 @@
 -- Stored strings whose meaning is known.
 use Rattle.std.proofs.Common.{◌≡◌, ℕ, List, Ok}
-use Rattle.o5_codec.specs.declared.table_entry.Decoded.{Decoded}
-use Rattle.o5_codec.specs.declared.table_entry.Decoded.TheVariants.{Uid, Text}
+use Rattle.o5_codec.specs.declared.read.table_entry.Decoded.{Decoded}
+use Rattle.o5_codec.specs.declared.read.table_entry.Decoded.TheVariants.{Uid, Text}
 use Rattle.o5_codec.specs.Text.{text_of, uid_of}
 use Rattle.o5_codec.specs.Decoded.{bytes_of, IsMeant}
 

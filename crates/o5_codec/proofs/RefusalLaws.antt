@@ -7,11 +7,11 @@ use Rattle.osm_model.specs.declared.kind.Kind.{Kind}
 use Rattle.osm_model.specs.declared.kind.Kind.TheVariants as kind
 use Rattle.o5_codec.specs.declared.reason.O5Reason.{O5Reason}
 use Rattle.o5_codec.specs.declared.reason.O5Reason.TheVariants.{BadNumber, BadText, BadReference, BadSection}
-use Rattle.o5_codec.specs.declared.segment.Segment.{Segment}
+use Rattle.o5_codec.specs.declared.read.segment.Segment.{Segment}
 use Rattle.o5_codec.specs.declared.strings.Form.{Form}
 use Rattle.o5_codec.specs.declared.strings.Form.TheVariants.{Pair, Single}
-use Rattle.o5_codec.specs.declared.strings.StringRef.{StringRef}
-use Rattle.o5_codec.specs.declared.strings.StringRef.TheVariants.{Inline, Reference}
+use Rattle.o5_codec.specs.declared.read.strings.StringRef.{StringRef}
+use Rattle.o5_codec.specs.declared.read.strings.StringRef.TheVariants.{Inline, Reference}
 use Rattle.o5_codec.specs.Results.{and_then}
 use Rattle.o5_codec.specs.Entry.{EntryStrings}
 use Rattle.o5_codec.specs.Table.{entry_at}

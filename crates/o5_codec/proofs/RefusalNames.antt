@@ -11,13 +11,13 @@ use Rattle.osm_model.specs.Id.{is_id}
 use Rattle.o5_codec.specs.declared.reason.O5Reason.{O5Reason}
 use Rattle.o5_codec.specs.declared.reason.O5Reason.TheVariants.{BadNumber, OutOfRange, NoVersion, BadMemberType, BadSection, NotUtf8}
 use Rattle.o5_codec.specs.declared.base.Bases.{Bases}
-use Rattle.o5_codec.specs.declared.segment.Segment.{Segment}
-use Rattle.o5_codec.specs.declared.segment.ListsSeen.{ListsSeen}
-use Rattle.o5_codec.specs.declared.segment.ListsSeen.TheVariants.{Neither, References, NodeMembers}
+use Rattle.o5_codec.specs.declared.read.segment.Segment.{Segment}
+use Rattle.o5_codec.specs.declared.read.segment.ListsSeen.{ListsSeen}
+use Rattle.o5_codec.specs.declared.read.segment.ListsSeen.TheVariants.{Neither, References, NodeMembers}
 use Rattle.o5_codec.specs.declared.strings.Form.{Form}
 use Rattle.o5_codec.specs.declared.strings.Form.TheVariants.{Pair, Single}
-use Rattle.o5_codec.specs.declared.strings.StringRef.{StringRef}
-use Rattle.o5_codec.specs.declared.strings.StringRef.TheVariants.{Inline, Reference}
+use Rattle.o5_codec.specs.declared.read.strings.StringRef.{StringRef}
+use Rattle.o5_codec.specs.declared.read.strings.StringRef.TheVariants.{Inline, Reference}
 use Rattle.o5_codec.specs.Reason.{is_step_reason}
 use Rattle.o5_codec.specs.Results.{and_then}
 use Rattle.o5_codec.specs.Entry.{EntryStrings}

@@ -19,7 +19,7 @@ use Rattle.osm_model.specs.Data.{VersionData, ids_of, texts_of, normal_body, ver
 use Rattle.osm_model.specs.New.{is_number, is_time, is_dated, first_fault}
 use Rattle.osm_model.specs.Valid.{IsInRange, IsVersion}
 use Rattle.osm_model.proofs.ValidLaws.{valid_version}
-use Rattle.o5_codec.specs.declared.segment.Segment.{Segment}
+use Rattle.o5_codec.specs.declared.read.segment.Segment.{Segment}
 use Rattle.o5_codec.specs.Segment.{id_at, meta_at}
 use Rattle.o5_codec.specs.Items.{items_at}
 use Rattle.o5_codec.specs.Body.{with_seen, tag_at, longitude_at, latitude_at, node_at, section_at, with_section, reference_at, way_at}

@@ -17,7 +17,7 @@ use Rattle.osm_model.specs.Text.{is_text}
 use Rattle.osm_model.specs.New.{is_number, is_time, is_dated}
 use Rattle.o5_codec.specs.declared.reason.O5Reason.TheVariants.{OutOfRange, NoVersion}
 use Rattle.o5_codec.specs.declared.base.Bases.{Bases}
-use Rattle.o5_codec.specs.declared.segment.Segment.{Segment}
+use Rattle.o5_codec.specs.declared.read.segment.Segment.{Segment}
 use Rattle.o5_codec.specs.Author.{Author}
 use Rattle.o5_codec.specs.declared.strings.Form.TheVariants.{Pair, Single}
 use Rattle.o5_codec.specs.Results.{and_then}

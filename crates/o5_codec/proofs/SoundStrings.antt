@@ -10,8 +10,8 @@ use Rattle.osm_model.proofs.TextLaws.{zero_bytes}
 use Rattle.o5_codec.specs.declared.reason.O5Reason.{O5Reason}
 use Rattle.o5_codec.specs.declared.strings.Form.{Form}
 use Rattle.o5_codec.specs.declared.strings.Form.TheVariants.{Pair, Single}
-use Rattle.o5_codec.specs.declared.strings.StringRef.{StringRef}
-use Rattle.o5_codec.specs.declared.strings.StringRef.TheVariants.{Inline, Reference}
+use Rattle.o5_codec.specs.declared.read.strings.StringRef.{StringRef}
+use Rattle.o5_codec.specs.declared.read.strings.StringRef.TheVariants.{Inline, Reference}
 use Rattle.o5_codec.specs.Results.{and_then}
 use Rattle.o5_codec.specs.Entry.{EntryStrings}
 use Rattle.o5_codec.specs.Table.{table_limit, is_short, table_with, entry_at}

@@ -14,7 +14,7 @@ use Rattle.osm_model.specs.declared.body.Body.TheVariants.{Node, Way, Relation}
 use Rattle.osm_model.specs.Data.{VersionData}
 use Rattle.o5_codec.specs.declared.reason.O5Reason.{O5Reason}
 use Rattle.o5_codec.specs.declared.reason.O5Reason.TheVariants.{BadSection, NoVersion}
-use Rattle.o5_codec.specs.declared.segment.Segment.{Segment}
+use Rattle.o5_codec.specs.declared.read.segment.Segment.{Segment}
 use Rattle.o5_codec.specs.Author.{Author}
 use Rattle.o5_codec.specs.declared.strings.Form.TheVariants.{Pair, Single}
 use Rattle.o5_codec.specs.Results.{and_then}

@@ -8,8 +8,8 @@ use Rattle.std.proofs.Math.Seq.{take-append_seam, drop-append-add}
 use Rattle.o5_codec.specs.declared.reason.O5Reason.{O5Reason}
 use Rattle.o5_codec.specs.declared.strings.Form.{Form}
 use Rattle.o5_codec.specs.declared.strings.Form.TheVariants.{Pair, Single}
-use Rattle.o5_codec.specs.declared.strings.StringRef.{StringRef}
-use Rattle.o5_codec.specs.declared.strings.StringRef.TheVariants.{Inline, Reference}
+use Rattle.o5_codec.specs.declared.read.strings.StringRef.{StringRef}
+use Rattle.o5_codec.specs.declared.read.strings.StringRef.TheVariants.{Inline, Reference}
 use Rattle.o5_codec.specs.Results.{and_then}
 use Rattle.o5_codec.specs.Entry.{EntryStrings}
 use Rattle.o5_codec.specs.Table.{table_with, entry_at}

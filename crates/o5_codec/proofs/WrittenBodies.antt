@@ -14,9 +14,9 @@ use Rattle.osm_model.specs.Data.{kind_of, ids_of, tags_of}
 use Rattle.osm_model.specs.Id.{is_id}
 use Rattle.osm_model.specs.Text.{is_text}
 use Rattle.osm_model.specs.Valid.{IsInRange}
-use Rattle.o5_codec.specs.declared.segment.Segment.{Segment}
-use Rattle.o5_codec.specs.declared.segment.ListsSeen.{ListsSeen}
-use Rattle.o5_codec.specs.declared.segment.ListsSeen.TheVariants.{References, NodeMembers}
+use Rattle.o5_codec.specs.declared.read.segment.Segment.{Segment}
+use Rattle.o5_codec.specs.declared.read.segment.ListsSeen.{ListsSeen}
+use Rattle.o5_codec.specs.declared.read.segment.ListsSeen.TheVariants.{References, NodeMembers}
 use Rattle.o5_codec.specs.Body.{with_section, with_member}
 use Rattle.o5_codec.specs.Base.{moved_id}
 use Rattle.o5_codec.specs.Spelling.{NumberAtFront, TagAtFront, MemberAtFront, ItemsInAll, SectionAtFront, VisibleInAll, BodyInAll}

@@ -21,9 +21,9 @@ use Rattle.osm_model.specs.Valid.{IsInRange, IsVersion}
 use Rattle.osm_model.proofs.SetLaws.{to_list-from_list}
 use Rattle.osm_model.proofs.TagLaws.{tag_cmp-IsAntisymmetric, list_all-texts_of_tags}
 use Rattle.osm_model.specs.Tags.{tag_cmp_total}
-use Rattle.o5_codec.specs.declared.segment.Segment.{Segment}
+use Rattle.o5_codec.specs.declared.read.segment.Segment.{Segment}
 use Rattle.o5_codec.specs.Author.{Author}
-use Rattle.o5_codec.specs.declared.segment.ListsSeen.{ListsSeen}
+use Rattle.o5_codec.specs.declared.read.segment.ListsSeen.{ListsSeen}
 use Rattle.o5_codec.specs.declared.strings.Form.TheVariants.{Pair}
 use Rattle.o5_codec.specs.Segment.{author, time_of, meta_of}
 use Rattle.o5_codec.specs.Spelling.{UserAtFront, AuthorAfterChangeset, AuthorAtFront, BodyInAll, SpellsSet}

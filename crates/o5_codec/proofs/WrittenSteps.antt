@@ -8,7 +8,7 @@ use Rattle.std.proofs.lemmas.Bool.Decides.{nat_tests}
 use Rattle.osm_model.specs.declared.tags.Tag.{Tag}
 use Rattle.osm_model.specs.Id.{is_id}
 use Rattle.osm_model.specs.Text.{is_text}
-use Rattle.o5_codec.specs.declared.segment.ListsSeen.{ListsSeen}
+use Rattle.o5_codec.specs.declared.read.segment.ListsSeen.{ListsSeen}
 use Rattle.o5_codec.specs.Spelling.{IdAtFront, TimeAtFront, ChangesetAtFront, LongitudeAtFront, LatitudeAtFront, ReferenceAtFront}
 use Rattle.o5_codec.specs.Spelling.{VersionAtFront}
 use Rattle.o5_codec.specs.Spelling.{UserAtFront, TagAtFront, ItemsInAll}

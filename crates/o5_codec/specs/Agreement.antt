@@ -3,9 +3,9 @@ use Rattle.std.specs.Prelude.{◌≡◌, ◌⊎◌, ◌<◌, ◌≤◌, ◌^◌,
 use Rattle.std.specs.Int.{w32}
 use Rattle.osm_model.specs.declared.kind.Kind.{Kind}
 use Rattle.osm_model.specs.declared.kind.Kind.TheVariants as kind
-use Rattle.o5_codec.specs.declared.segment.Segment.{Segment}
-use Rattle.o5_codec.specs.declared.segment.ListsSeen.{ListsSeen}
-use Rattle.o5_codec.specs.declared.segment.ListsSeen.TheVariants.{Neither, References, NodeMembers}
+use Rattle.o5_codec.specs.declared.read.segment.Segment.{Segment}
+use Rattle.o5_codec.specs.declared.read.segment.ListsSeen.{ListsSeen}
+use Rattle.o5_codec.specs.declared.read.segment.ListsSeen.TheVariants.{Neither, References, NodeMembers}
 use Rattle.o5_codec.specs.Entry.{EntryStrings}
 use Rattle.o5_codec.specs.Table.{table_limit}
 use Rattle.o5_codec.specs.Formed.{FormedEntry}

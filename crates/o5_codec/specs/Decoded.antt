@@ -1,7 +1,7 @@
 -- The bytes of a stored string, and the properties of its meaning.
 use Rattle.std.specs.Prelude.{ℕ, ◌≡◌, ⊤, List, Ok, encode_utf8_all}
-use Rattle.o5_codec.specs.declared.table_entry.Decoded.{Decoded}
-use Rattle.o5_codec.specs.declared.table_entry.Decoded.TheVariants.{Uid, Text, Unknown}
+use Rattle.o5_codec.specs.declared.read.table_entry.Decoded.{Decoded}
+use Rattle.o5_codec.specs.declared.read.table_entry.Decoded.TheVariants.{Uid, Text, Unknown}
 use Rattle.o5_codec.specs.Text.{text_of, uid_of}
 
 -- the bytes of the string

@@ -4,8 +4,8 @@ use Rattle.osm_model.specs.declared.kind.Kind.{Kind}
 use Rattle.osm_model.specs.Data.{VersionData}
 use Rattle.o5_codec.specs.declared.reason.O5Reason.{O5Reason}
 use Rattle.o5_codec.specs.declared.reason.O5Reason.TheVariants.{Memory, Failed}
-use Rattle.o5_codec.specs.declared.segment.Segment.{Segment}
-use Rattle.o5_codec.specs.declared.segment.ListsSeen.TheVariants.{Neither}
+use Rattle.o5_codec.specs.declared.read.segment.Segment.{Segment}
+use Rattle.o5_codec.specs.declared.read.segment.ListsSeen.TheVariants.{Neither}
 use Rattle.o5_codec.specs.declared.base.Bases.{Bases}
 use Rattle.o5_codec.specs.Body.{set_at}
 

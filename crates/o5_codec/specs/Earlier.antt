@@ -13,10 +13,10 @@ use Rattle.osm_model.specs.declared.body.Body.TheVariants.{Deleted, Node, Way, R
 use Rattle.osm_model.specs.Data.{VersionData}
 use Rattle.o5_codec.specs.declared.reason.O5Reason.{O5Reason}
 use Rattle.o5_codec.specs.declared.base.Bases.{Bases}
-use Rattle.o5_codec.specs.declared.segment.Segment.{Segment}
+use Rattle.o5_codec.specs.declared.read.segment.Segment.{Segment}
 use Rattle.o5_codec.specs.Author.{Author}
-use Rattle.o5_codec.specs.declared.segment.ListsSeen.{ListsSeen}
-use Rattle.o5_codec.specs.declared.segment.ListsSeen.TheVariants.{Neither, References, NodeMembers}
+use Rattle.o5_codec.specs.declared.read.segment.ListsSeen.{ListsSeen}
+use Rattle.o5_codec.specs.declared.read.segment.ListsSeen.TheVariants.{Neither, References, NodeMembers}
 use Rattle.o5_codec.specs.declared.strings.Form.{Form}
 use Rattle.o5_codec.specs.declared.strings.Form.TheVariants.{Pair, Single}
 use Rattle.o5_codec.specs.Entry.{EntryStrings}

@@ -4,7 +4,7 @@ use Rattle.osm_model.specs.declared.meta.Meta.{Meta}
 use Rattle.o5_codec.specs.declared.reason.O5Reason.{O5Reason}
 use Rattle.o5_codec.specs.declared.reason.O5Reason.TheVariants.{NoVersion}
 use Rattle.o5_codec.specs.declared.base.Bases.{Bases}
-use Rattle.o5_codec.specs.declared.segment.Segment.{Segment}
+use Rattle.o5_codec.specs.declared.read.segment.Segment.{Segment}
 use Rattle.o5_codec.specs.Author.{Author}
 use Rattle.o5_codec.specs.declared.strings.Form.TheVariants.{Pair}
 use Rattle.o5_codec.specs.Results.{and_then}

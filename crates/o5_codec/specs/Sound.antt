@@ -1,7 +1,7 @@
 -- A property of each segment: the strings of its table have no zero byte, since a zero byte ends a string.
 use Rattle.std.specs.Prelude.{ℕ, Bool, not, ◌&&◌, ◌==◌, List}
 use Rattle.std.specs.List.{list_all}
-use Rattle.o5_codec.specs.declared.segment.Segment.{Segment}
+use Rattle.o5_codec.specs.declared.read.segment.Segment.{Segment}
 use Rattle.o5_codec.specs.Entry.{EntryStrings}
 
 abbrev pub has_no_zero : List ℕ → Bool

@@ -5,8 +5,8 @@ use Rattle.o5_codec.specs.declared.reason.O5Reason.{O5Reason}
 use Rattle.o5_codec.specs.declared.reason.O5Reason.TheVariants.{BadText, BadReference}
 use Rattle.o5_codec.specs.declared.strings.Form.{Form}
 use Rattle.o5_codec.specs.declared.strings.Form.TheVariants.{Pair, Single}
-use Rattle.o5_codec.specs.declared.strings.StringRef.{StringRef}
-use Rattle.o5_codec.specs.declared.strings.StringRef.TheVariants.{Inline, Reference}
+use Rattle.o5_codec.specs.declared.read.strings.StringRef.{StringRef}
+use Rattle.o5_codec.specs.declared.read.strings.StringRef.TheVariants.{Inline, Reference}
 use Rattle.o5_codec.specs.Results.{and_then}
 use Rattle.o5_codec.specs.Number.{number_at}
 use Rattle.o5_codec.specs.Entry.{EntryStrings}

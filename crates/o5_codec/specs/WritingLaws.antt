@@ -2,9 +2,9 @@
 use Rattle.std.specs.Prelude.{◌≡◌, ◌<◌, ◌≤◌, ◌^◌, ℕ, Bool, true, false, List, [], ◌∷◌, ◌++◌, length, All}
 use Rattle.osm_model.specs.Data.{VersionData, kind_of}
 use Rattle.osm_model.specs.Valid.{IsVersion}
-use Rattle.o5_codec.specs.declared.segment.Segment.{Segment}
-use Rattle.o5_codec.specs.declared.segment.ListsSeen.{ListsSeen}
-use Rattle.o5_codec.specs.declared.segment.ListsSeen.TheVariants.{Neither}
+use Rattle.o5_codec.specs.declared.read.segment.Segment.{Segment}
+use Rattle.o5_codec.specs.declared.read.segment.ListsSeen.{ListsSeen}
+use Rattle.o5_codec.specs.declared.read.segment.ListsSeen.TheVariants.{Neither}
 use Rattle.o5_codec.specs.Decoder.{new_segment}
 use Rattle.o5_codec.specs.Spelling.{SectionAtFront, SpellsSet}
 use Rattle.o5_codec.specs.Number.{SpellsNumber}

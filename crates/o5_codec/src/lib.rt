@@ -2,25 +2,16 @@
 #![tactic(auto)]
 
 mod base;
-mod body;
-mod decoder;
-mod encoder;
 mod fault;
 pub mod laws;
-mod number;
+mod limits;
+mod read;
 mod reason;
-mod segment;
 mod strings;
-mod table;
-mod table_entry;
-mod text;
 mod write;
 
-pub use decoder::Decoder;
-pub use encoder::Encoder;
 pub use fault::EncodeFault;
-pub use number::{read_number, read_signed};
+pub use read::decoder::Decoder;
+pub use read::number::{read_number, read_signed};
 pub use reason::O5Reason;
-
-#[cfg(test)]
-mod tests;
+pub use write::encoder::Encoder;

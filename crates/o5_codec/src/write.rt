@@ -1,6 +1,8 @@
 //! Writing the parts of data sets.
+pub(crate) mod base;
 pub(crate) mod block;
 pub(crate) mod body;
+pub(crate) mod encoder;
 pub(crate) mod entry;
 pub(crate) mod indexed_table;
 pub(crate) mod number;

@@ -16,7 +16,7 @@ use Rattle.opl_line.specs.Spells.{Spells}
 use Rattle.opl_line.proofs.LineReasonLaws.{reported_is_reason}
 use Rattle.opl_line.proofs.SpellsLaws.{read_is_spelled, result_spelled}
 use Rattle.o5_codec.specs.declared.reason.O5Reason.{O5Reason}
-use Rattle.o5_codec.specs.declared.segment.Segment.{Segment}
+use Rattle.o5_codec.specs.declared.read.segment.Segment.{Segment}
 use Rattle.o5_codec.specs.Decoder.{new_segment}
 use Rattle.o5_codec.specs.Number.{SpellsNumber, number_at}
 use Rattle.o5_codec.specs.Body.{set_at}

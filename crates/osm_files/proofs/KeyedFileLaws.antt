@@ -7,7 +7,7 @@ use Rattle.osm_model.specs.declared.body.Body.{Body}
 use Rattle.osm_model.specs.Data.{VersionData, kind_of, normal_body}
 use Rattle.osm_model.specs.VersionSet.{VersionSet}
 use Rattle.o5_codec.specs.declared.reason.O5Reason.TheVariants.{NoVersion, OutOfRange}
-use Rattle.o5_codec.specs.declared.segment.Segment.{Segment}
+use Rattle.o5_codec.specs.declared.read.segment.Segment.{Segment}
 use Rattle.o5_codec.specs.Base.{moved_id, within_range}
 use Rattle.o5_codec.specs.Decoder.{new_segment}
 use Rattle.o5_codec.specs.Number.{number_at}

@@ -23,7 +23,7 @@ use Rattle.opl_line.specs.declared.reason.OplReason.{OplReason}
 use Rattle.opl_line.specs.declared.reason.OplReason.TheVariants as opl
 use Rattle.o5_codec.specs.declared.reason.O5Reason.{O5Reason}
 use Rattle.o5_codec.specs.declared.reason.O5Reason.TheVariants as o5
-use Rattle.o5_codec.specs.declared.segment.Segment.{Segment}
+use Rattle.o5_codec.specs.declared.read.segment.Segment.{Segment}
 use Rattle.osm_files.specs.declared.reason.Reason.TheVariants.{BadHeader, Unsorted, ReadFault}
 use Rattle.osm_files.specs.Reason.{of_line, of_data_set}
 use Rattle.osm_files.specs.O5.{end_byte, reset_byte, is_lone, kind_of_type}

@@ -8,7 +8,7 @@ use Rattle.osm_model.specs.Data.{VersionData}
 use Rattle.osm_model.specs.declared.kind.Kind.{Kind}
 use Rattle.osm_model.specs.declared.kind.Kind.TheVariants as kind
 use Rattle.o5_codec.specs.declared.reason.O5Reason.{O5Reason}
-use Rattle.o5_codec.specs.declared.segment.Segment.{Segment}
+use Rattle.o5_codec.specs.declared.read.segment.Segment.{Segment}
 use Rattle.o5_codec.specs.Number.{AreGroups, SpellsNumber, number_at}
 use Rattle.o5_codec.specs.Spelling.{SpellsSet}
 use Rattle.o5_codec.specs.Decoder.{new_segment}

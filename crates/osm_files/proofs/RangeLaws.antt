@@ -24,7 +24,7 @@ use Rattle.opl_line.specs.Part as part
 use Rattle.opl_line.specs.Part.{LinePart, SpellsPart, with_part}
 use Rattle.opl_line.specs.Reading.{meta_of, reading_location, reading_visible, reading_body}
 use Rattle.opl_line.specs.Spells.{is_full, Spells}
-use Rattle.o5_codec.specs.declared.segment.Segment.{Segment}
+use Rattle.o5_codec.specs.declared.read.segment.Segment.{Segment}
 use Rattle.o5_codec.specs.Sound.{is_sound}
 use Rattle.o5_codec.specs.Decoder.{new_segment}
 use Rattle.o5_codec.proofs.StepLaws.{set_only}

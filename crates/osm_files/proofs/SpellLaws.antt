@@ -27,7 +27,7 @@ use Rattle.opl_line.specs.Delimiter.{split_all, is_line_end, pieces_of, split_fi
 use Rattle.opl_line.specs.Spells.{Spells}
 use Rattle.opl_line.proofs.CutLaws.{cut_split, split_front}
 use Rattle.opl_line.proofs.WholeLineLaws.{line_is_in_one_file, line_spells_its_version}
-use Rattle.o5_codec.specs.declared.segment.Segment.{Segment}
+use Rattle.o5_codec.specs.declared.read.segment.Segment.{Segment}
 use Rattle.o5_codec.specs.Decoder.{new_segment}
 use Rattle.o5_codec.specs.Encoder.{WriterState, initial_writer, reset_before, type_byte as set_type, writer_after, spelled_set}
 use Rattle.o5_codec.specs.WritingLaws.{segment_for, SetsInAll, spelled_sets}

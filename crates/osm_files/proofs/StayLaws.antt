@@ -9,7 +9,7 @@ use Rattle.std.proofs.lemmas.List.{take-append-le}
 use Rattle.opl_line.specs.Delimiter.{is_line_end, with_byte, split_first}
 use Rattle.o5_codec.specs.declared.reason.O5Reason.{O5Reason}
 use Rattle.o5_codec.specs.declared.reason.O5Reason.TheVariants.{BadNumber}
-use Rattle.o5_codec.specs.declared.segment.Segment.{Segment}
+use Rattle.o5_codec.specs.declared.read.segment.Segment.{Segment}
 use Rattle.o5_codec.specs.Results.{and_then}
 use Rattle.o5_codec.specs.Number.{groups_at, number_at, with_low, within_word}
 use Rattle.o5_codec.specs.Decoder.{new_segment}

@@ -5,7 +5,7 @@ use Rattle.std.proofs.lemmas.Bool.{ltb-false, leb-true}
 use Rattle.opl_line.specs.Delimiter.{is_line_end, split_first}
 use Rattle.opl_line.specs.Reading.{reading_line}
 use Rattle.o5_codec.specs.declared.reason.O5Reason.{O5Reason}
-use Rattle.o5_codec.specs.declared.segment.Segment.{Segment}
+use Rattle.o5_codec.specs.declared.read.segment.Segment.{Segment}
 use Rattle.o5_codec.specs.Decoder.{new_segment}
 use Rattle.osm_files.specs.declared.reason.Reason.TheVariants.{BadHeader}
 use Rattle.osm_files.specs.Stream.{Verdict, Placed, SourceRest}

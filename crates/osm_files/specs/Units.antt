@@ -9,7 +9,7 @@ use Rattle.opl_line.specs.Reading.{reading_line}
 use Rattle.opl_line.specs.declared.reason.OplReason.{OplReason}
 use Rattle.o5_codec.specs.declared.reason.O5Reason.{O5Reason}
 use Rattle.o5_codec.specs.declared.reason.O5Reason.TheVariants as o5
-use Rattle.o5_codec.specs.declared.segment.Segment.{Segment}
+use Rattle.o5_codec.specs.declared.read.segment.Segment.{Segment}
 use Rattle.o5_codec.specs.Number.{number_at}
 use Rattle.o5_codec.specs.Body.{set_at}
 use Rattle.o5_codec.specs.Decoder.{new_segment}

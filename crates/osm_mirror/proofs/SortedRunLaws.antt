@@ -8,7 +8,7 @@ use Rattle.osm_model.specs.VersionSet.{VersionSet}
 use Rattle.osm_model.specs.Pairwise.{Pairwise}
 use Rattle.opl_line.specs.Delimiter.{is_line_end}
 use Rattle.opl_line.specs.Spells.{Spells}
-use Rattle.o5_codec.specs.declared.segment.Segment.{Segment}
+use Rattle.o5_codec.specs.declared.read.segment.Segment.{Segment}
 use Rattle.o5_codec.specs.Decoder.{new_segment}
 use Rattle.osm_files.specs.Opl.{OplFile}
 use Rattle.osm_files.specs.O5.{end_byte, reset_byte, FilePart, Reset, Lone, Skipped, Object, part_bytes, PartsSpell, O5File}

@@ -12,8 +12,8 @@ ghost use Rattle.o5_codec.specs.Writing.{uid_string, member_string};
 ghost use Rattle.o5_codec.specs.StringKey.{formed_of};
 ghost use Rattle.o5_codec.specs.SameEntry.{same_entry_decides};
 
+use crate::limits::is_short;
 use crate::strings::{Form, StringPair};
-use crate::table::is_short;
 use crate::write::block::Block;
 use crate::write::set_buffer::SetBuffer;
 use crate::write::string_key::StringKey;

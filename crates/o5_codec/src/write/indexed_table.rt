@@ -12,7 +12,7 @@ ghost use Rattle.o5_codec.specs.Formed.{same_entry, reference_to, formed_table_w
 ghost use Rattle.o5_codec.specs.Indexed.{IsNext};
 ghost use Rattle.o5_codec.specs.StringKey.{formed_of};
 
-use crate::table::LIMIT;
+use crate::limits::TABLE_LIMIT;
 use crate::write::entry::Entry;
 use crate::write::set_buffer::SetBuffer;
 use crate::write::slot::{Slot, SlotCache};
@@ -53,12 +53,12 @@ impl Model for IndexedTable {
 }
 
 impl IndexedTable {
-    /// An empty table with room for `LIMIT` entries.
+    /// An empty table with room for `TABLE_LIMIT` entries.
     pub(crate) fn new(alloc: Global) -> Result<IndexedTable, Memory>
         ensures { IfOk result (λ t. t ≡ []) }
     {
         Ok(IndexedTable {
-            ring: HeapCircularBuffer::with_capacity(alloc, LIMIT)?,
+            ring: HeapCircularBuffer::with_capacity(alloc, TABLE_LIMIT)?,
             numbers: HashMap::new(alloc),
             next: 0,
             cache: SlotCache::new(alloc)?,

@@ -1,12 +1,11 @@
 //! Versions, each with its line and the data set that is written for it.
 ghost use Rattle.std.specs.Prelude.{◌≡◌, false};
 
-use crate::number::read_number;
 use crate::write::entry::Entry;
 use crate::write::segment::EncoderSegment;
 use crate::write::set_buffer::SetBuffer;
 use crate::write::string_key::StringKey;
-use crate::{Decoder, Encoder};
+use crate::{Decoder, Encoder, read_number};
 use osm_model::{Body, Kind, Meta, Tag, Tags, Text, Version};
 use std::alloc::Global;
 use std::process::Abort;
