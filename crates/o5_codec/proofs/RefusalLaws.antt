@@ -1,4 +1,6 @@
--- A data set is refused for the reason of its first step that can't be done, and for no other.
+-- A data set is refused for the reason of its first step that can't be done, and for no other. A lemma `X_refused` ties
+-- the two sides of a part X: the function that reads X returns a reason exactly if the relation of specs/Refusal.antt has
+-- it. A lemma `X_reason` names the one reason that X has.
 use Rattle.std.proofs.Common.{◌≡◌, ℕ, ℤ, zero, suc, ◌-◌, ◌^◌, ◌<◌, ◌≤◌, ◌⊎◌, inl, inr, Bool, true, false, eqb, ltb, leb, List, [], ◌∷◌}
 use Rattle.std.proofs.Common.{length, take, drop, refl, ap, sym, ◌∙◌, arith, Result, Ok, Err, Option, Some, None, if◌then◌else◌}
 use Rattle.std.proofs.lemmas.Bool.{false≢true}
@@ -44,7 +46,7 @@ use Rattle.o5_codec.proofs.StepLaws.{section_only}
 abbrev Same : Type 0 → Type 0 → Type 0
 Same P Q = (P → Q) × (Q → P)
 
--- A refusal has one reason.
+-- a refusal has one reason
 pub same_reason : {X : Type 0} (a b : O5Reason) → (let refused : Result X O5Reason = Err a in refused ≡ Err b) → a ≡ b
 same_reason a b h = cc
 
@@ -122,6 +124,7 @@ number_reason bytes f h = within_reason (groups_at 10 bytes) f (groups_reason 10
 number_same : (bytes : List ℕ) (x : ℕ × List ℕ) → Same (number_at bytes ≡ Ok x) (NumberAtFront bytes x)
 number_same bytes x = (number_found bytes x, number_only bytes x)
 
+-- an unsigned number is refused exactly for BadNumber, if the bytes begin with no number
 pub number_refused : (bytes : List ℕ) (reason : O5Reason) → Same (number_at bytes ≡ Err reason) (NumberRefused bytes reason)
 number_refused bytes reason = only_reason (number_at bytes) BadNumber reason (NumberAtFront bytes) (number_reason bytes) (number_same bytes)
 
@@ -444,6 +447,7 @@ body_refused kind.Way s (b ∷ bytes) reason = way_refused s (b ∷ bytes) reaso
 body_refused kind.Relation s (b ∷ bytes) reason = relation_refused s (b ∷ bytes) reason
 
 -- ---- whole data sets
+-- a data set is refused for a reason exactly if that is the reason of its first step that can't be done
 pub set_refused : (k : Kind) (s : Segment) (content : List ℕ) (reason : O5Reason) →
     Same (set_at k s content ≡ Err reason) (SetReason k s content reason)
 unfolding set_at id_at

@@ -115,7 +115,7 @@ impl Segment {
         Ok(())
     }
 
-    /// The longitude, and the bytes after it.
+    /// The longitude in units of 10^-7 degree, and the bytes after it.
     #[tactic(auto, unfolding(crate::specs::Body::longitude_at))]
     fn read_longitude<'a>(&mut self, bytes: &'a [u8]) -> Result<(i32, &'a [u8]), O5Reason>
         ensures { O5Gives (λ x. (x.0, self.new, x.1.now)) (spec.longitude_at self.old bytes.now) result }
@@ -123,7 +123,7 @@ impl Segment {
         self.bases.lon.read(bytes)
     }
 
-    /// The latitude, and the bytes after it.
+    /// The latitude in units of 10^-7 degree, and the bytes after it.
     #[tactic(auto, unfolding(crate::specs::Body::latitude_at))]
     fn read_latitude<'a>(&mut self, bytes: &'a [u8]) -> Result<(i32, &'a [u8]), O5Reason>
         ensures { O5Gives (λ x. (x.0, self.new, x.1.now)) (spec.latitude_at self.old bytes.now) result }
@@ -227,7 +227,6 @@ impl Segment {
         self.read_each_tag(bytes, spare)
     }
 
-    /// An empty list of tags.
     #[inline(always)]
     fn no_tags(&self) -> Tags
         ensures { result ≡ [] }

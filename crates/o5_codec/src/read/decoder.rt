@@ -92,7 +92,6 @@ impl Decoder {
 }
 
 impl Segment {
-    /// A segment without any data sets.
     fn new(alloc: Global) -> Result<Segment, Memory>
         ensures { IfOk result (λ s. s ≡ new_segment) }
     {
@@ -103,7 +102,6 @@ impl Segment {
         })
     }
 
-    /// Resets the segment.
     fn clear(&mut self)
         ensures { self.new ≡ new_segment }
     {

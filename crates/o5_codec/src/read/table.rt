@@ -50,7 +50,6 @@ impl Table {
         *self.ring.allocator()
     }
 
-    /// Drops all entries.
     pub(crate) fn clear(&mut self)
         ensures { self.new ≡ [] }
     {

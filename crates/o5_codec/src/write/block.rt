@@ -25,7 +25,6 @@ pub(crate) struct Block {
 impl Block {
     ghost use Rattle.o5_codec.specs.Block.{filled_bytes};
 
-    /// A block without bytes.
     pub(crate) fn new() -> Block
         ensures { filled_bytes result ≡ [] }
     {
@@ -35,7 +34,6 @@ impl Block {
         }
     }
 
-    /// Drops all bytes.
     pub(crate) fn clear(&mut self)
         ensures bytes { filled_bytes self.new ≡ [] }
         ensures room { self.new.end ≡ 0 }
@@ -50,7 +48,6 @@ impl Block {
         self.end = 2;
     }
 
-    /// Sets the first two bytes.
     pub(crate) fn set_front(&mut self, one: u8, two: u8)
         requires { 2 ≤ length (filled_bytes self.old) }
         ensures { filled_bytes self.new ≡ one ∷ two ∷ drop 2 (filled_bytes self.old) }
@@ -59,7 +56,6 @@ impl Block {
         self.bytes[1] = two;
     }
 
-    /// The number of bytes.
     pub(crate) fn len(&self) -> usize
         ensures end { result ≡ self.now.end }
         ensures length { result ≡ length (filled_bytes self.now) }
@@ -67,7 +63,6 @@ impl Block {
         self.end
     }
 
-    /// The bytes.
     pub(crate) fn as_slice(&self) -> &[u8]
         ensures { result.now ≡ filled_bytes self.now }
     {
@@ -108,7 +103,6 @@ impl Block {
         Ok(())
     }
 
-    /// Appends a byte.
     pub(crate) fn push(&mut self, byte: u8)
         requires { self.old.end < 128 }
         ensures { filled_bytes self.new ≡ filled_bytes self.old ++ byte ∷ [] }
@@ -117,7 +111,6 @@ impl Block {
         self.end += 1;
     }
 
-    /// Appends bytes.
     pub(crate) fn append(&mut self, bytes: &[u8])
         requires { self.old.end + length bytes.now ≤ 128 }
         ensures { filled_bytes self.new ≡ filled_bytes self.old ++ bytes.now }
@@ -127,7 +120,7 @@ impl Block {
         self.end = end;
     }
 
-    /// Appends an unsigned number.
+    /// Appends a number in its shortest form.
     #[inline(always)]
     pub(crate) fn append_number(&mut self, number: u64)
         requires { self.old.end + 10 ≤ 128 }
@@ -161,7 +154,7 @@ impl Block {
         self.end = end + 4;
     }
 
-    /// Appends a number of any length, group by group.
+    /// As for `append_number`, for a number of any length: a loop over its groups of seven bits.
     #[inline(never)]
     fn append_long_number(&mut self, number: u64)
         requires { self.old.end + 10 ≤ 128 }

@@ -14,7 +14,7 @@ use crate::write::string_key::StringKey;
 use osm_model::{Body, Member, Memory, Tag};
 
 impl EncoderSegment {
-    /// Appends a body. The section of references or members is first made in `section`.
+    /// Appends a body. `section` is a buffer for the section of references or members, whose length comes before it.
     #[tactic(auto, unfolding(crate::specs::Writing::body_spelling))]
     pub(crate) fn append_body(
         &mut self,
@@ -46,7 +46,6 @@ impl EncoderSegment {
         }
     }
 
-    /// Appends the tags.
     #[inline(always)]
     fn append_tags(&mut self, out: &mut SetBuffer, tags: &[Tag]) -> Result<(), Memory>
         ensures { OnOk result (AppendsSpelling out.old out.new self.new (spec.tags_spelling tags.now self.old)) }
@@ -70,7 +69,7 @@ impl EncoderSegment {
         Ok(())
     }
 
-    /// Appends the section of a way's references.
+    /// Appends the section of a way's references, which is made in `section`.
     #[tactic(auto, unfolding(crate::specs::Writing::section_spelling))]
     fn append_references(
         &mut self,
@@ -88,7 +87,6 @@ impl EncoderSegment {
         append_section(out, section)
     }
 
-    /// Appends each reference.
     #[tactic(auto, unfolding(crate::specs::Writing::references_spelling))]
     fn append_each_reference(&mut self, out: &mut SetBuffer, ids: &[i64]) -> Result<(), Memory>
         requires { list_all is_id ids.now ≡ true }
@@ -100,7 +98,7 @@ impl EncoderSegment {
         Ok(())
     }
 
-    /// Appends the section of a relation's members.
+    /// Appends the section of a relation's members, which is made in `section`.
     #[tactic(auto, unfolding(crate::specs::Writing::section_spelling))]
     fn append_members(
         &mut self,
@@ -118,7 +116,6 @@ impl EncoderSegment {
         append_section(out, section)
     }
 
-    /// Appends each member.
     #[tactic(auto, unfolding(crate::specs::Writing::members_spelling))]
     fn append_each_member(&mut self, out: &mut SetBuffer, members: &[Member]) -> Result<(), Memory>
         requires { list_all is_id (ids_of_members members.now) ≡ true }

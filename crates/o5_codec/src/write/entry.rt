@@ -36,7 +36,6 @@ pub(crate) struct Entry {
     form: Form,
     bytes: SmallVec<u8, INLINE_BYTES>,
     split: usize,
-    /// The hash of the bytes.
     entry_hash: u64,
     /// The user id that the first string spells, if the entry was filled as a user's.
     uid: Option<u64>,
@@ -55,7 +54,6 @@ impl Model for Entry {
 }
 
 impl Form {
-    /// Whether two forms are the same.
     fn is_same(self, other: Form) -> bool
         ensures { result ≡ same_form self other }
     {
@@ -107,7 +105,6 @@ impl Entry {
         }
     }
 
-    /// The two strings.
     fn strings(&self) -> StringPair<'_>
         ensures { result ≡ self.now.strings }
     {
@@ -166,7 +163,6 @@ impl Entry {
         Ok(())
     }
 
-    /// A copy of the entry.
     pub(crate) fn copy(&self, alloc: Global) -> Result<Entry, Memory>
         ensures { IfOk result (λ e. e ≡ self.now) }
     {
@@ -227,7 +223,6 @@ impl Entry {
     }
 }
 
-/// The hash of an entry's bytes.
 #[tactic(auto, unfolding(crate::specs::EntryHash::entry_hash))]
 fn hash_of(bytes: &[u8]) -> u64
     ensures { result ≡ entry_hash bytes.now }

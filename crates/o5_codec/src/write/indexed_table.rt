@@ -34,7 +34,7 @@ pub(crate) struct IndexedTable {
     numbers: HashMap<Entry, u64>,
     /// The number of the next entry.
     next: u64,
-    /// A cache of `numbers`.
+    /// The numbers of entries that were written lately, so that most of them are found without a hash.
     cache: SlotCache,
     alloc: Global,
 }
@@ -66,7 +66,6 @@ impl IndexedTable {
         })
     }
 
-    /// Drops all entries.
     pub(crate) fn clear(&mut self)
         ensures { self.new ≡ [] }
     {
@@ -175,7 +174,7 @@ fn remove(numbers: &mut HashMap<Entry, u64>, entry: Entry)
     numbers.remove(&entry);
 }
 
-/// The number after `number`.
+/// The number after `number`, modulo 2^64.
 fn number_after(number: u64) -> u64
     ensures { IsNext (2 ^ 64) number result }
 {

@@ -54,7 +54,7 @@ impl EncoderSegment {
         self.table.clear();
     }
 
-    /// Appends the content of a version's data set.
+    /// Appends the content of a version's data set. `section` is a buffer for the section in it.
     #[tactic(auto, unfolding(crate::specs::Writing::content_spelling))]
     pub(crate) fn append_content(
         &mut self,
@@ -72,7 +72,6 @@ impl EncoderSegment {
         Ok(())
     }
 
-    /// Appends the id of an object.
     #[tactic(auto, unfolding(crate::specs::Writing::id_spelling))]
     fn append_id(&mut self, out: &mut SetBuffer, id: i64) -> Result<(), Memory>
         requires { is_id id ≡ true }
@@ -81,7 +80,7 @@ impl EncoderSegment {
         self.bases.id.append(out, id)
     }
 
-    /// Appends a time; 0 is none.
+    /// Appends a time in seconds since 1970-01-01T00:00:00Z; 0 is none.
     #[tactic(auto, unfolding(crate::specs::Writing::time_spelling))]
     fn append_time(&mut self, out: &mut SetBuffer, time: u32) -> Result<(), Memory>
         ensures { OnOk result (AppendsSpelling out.old out.new self.new (spec.time_spelling time self.old)) }
@@ -105,7 +104,6 @@ impl EncoderSegment {
         }
     }
 
-    /// Appends a changeset.
     #[tactic(auto, unfolding(crate::specs::Writing::changeset_spelling))]
     fn append_changeset(&mut self, out: &mut SetBuffer, changeset: u32) -> Result<(), Memory>
         ensures { OnOk result (AppendsSpelling out.old out.new self.new (spec.changeset_spelling changeset self.old)) }
@@ -133,7 +131,7 @@ impl EncoderSegment {
         self.table.append(out, Slot::of(key), &self.entry)
     }
 
-    /// Appends the id of a member.
+    /// Appends the id of a member. Members of each kind have their own base.
     #[tactic(auto, unfolding(crate::specs::Writing::member_id_spelling))]
     pub(crate) fn append_member_id(
         &mut self,
@@ -151,7 +149,7 @@ impl EncoderSegment {
         }
     }
 
-    /// Appends the reference of a way.
+    /// Appends the reference of a way. All ways of a segment have one base.
     #[tactic(auto, unfolding(crate::specs::Writing::reference_spelling))]
     pub(crate) fn append_reference(&mut self, out: &mut SetBuffer, id: i64) -> Result<(), Memory>
         requires { is_id id ≡ true }
@@ -160,7 +158,7 @@ impl EncoderSegment {
         self.bases.reference.append(out, id)
     }
 
-    /// Appends a longitude.
+    /// Appends a longitude in units of 10^-7 degree.
     #[tactic(auto, unfolding(crate::specs::Writing::longitude_spelling))]
     pub(crate) fn append_longitude(&mut self, out: &mut SetBuffer, lon: i32) -> Result<(), Memory>
         ensures { OnOk result (AppendsSpelling out.old out.new self.new (spec.longitude_spelling lon self.old)) }
@@ -168,7 +166,7 @@ impl EncoderSegment {
         self.bases.lon.append(out, lon)
     }
 
-    /// Appends a latitude.
+    /// Appends a latitude in units of 10^-7 degree.
     #[tactic(auto, unfolding(crate::specs::Writing::latitude_spelling))]
     pub(crate) fn append_latitude(&mut self, out: &mut SetBuffer, lat: i32) -> Result<(), Memory>
         ensures { OnOk result (AppendsSpelling out.old out.new self.new (spec.latitude_spelling lat self.old)) }

@@ -29,7 +29,6 @@ impl Model for SetBuffer {
 }
 
 impl SetBuffer {
-    /// A buffer without bytes.
     pub(crate) fn new(alloc: Global) -> SetBuffer
         ensures { result ≡ [] }
     {
@@ -39,7 +38,6 @@ impl SetBuffer {
         }
     }
 
-    /// Drops all bytes.
     pub(crate) fn clear(&mut self)
         ensures { self.new ≡ [] }
     {
@@ -68,7 +66,6 @@ impl SetBuffer {
         true
     }
 
-    /// The number of bytes.
     pub(crate) fn len(&self) -> u64
         ensures { result ≡ length self.now }
     {
@@ -109,11 +106,7 @@ impl SetBuffer {
         Ok(())
     }
 
-    /// Appends an unsigned number.
-    ///
-    /// # Errors
-    ///
-    /// `Memory` when out of memory.
+    /// Appends a number in its shortest form.
     #[inline(always)]
     pub(crate) fn append_number(&mut self, number: u64) -> Result<(), Memory>
         ensures { OnOk result (self.new ≡ self.old ++ shortest_number number) }
@@ -123,11 +116,6 @@ impl SetBuffer {
         Ok(())
     }
 
-    /// Appends a byte.
-    ///
-    /// # Errors
-    ///
-    /// `Memory` when out of memory.
     pub(crate) fn push(&mut self, byte: u8) -> Result<(), Memory>
         ensures { OnOk result (self.new ≡ self.old ++ byte ∷ []) }
     {
@@ -136,11 +124,6 @@ impl SetBuffer {
         Ok(())
     }
 
-    /// Appends bytes.
-    ///
-    /// # Errors
-    ///
-    /// `Memory` when out of memory.
     pub(crate) fn append(&mut self, bytes: &[u8]) -> Result<(), Memory>
         ensures { OnOk result (self.new ≡ self.old ++ bytes.now) }
     {

@@ -11,7 +11,6 @@ use crate::write::string_key::StringKey;
 use osm_model::Memory;
 use std::alloc::Global;
 
-/// The number of slots.
 const SLOTS: usize = 65_536;
 
 /// A slot keeps the number of an entry modulo `NUMBERS`. A table has fewer entries.
@@ -68,12 +67,10 @@ impl Slot {
         }
     }
 
-    /// The slot of two numbers.
     fn of_two(first: u64, second: u64) -> Slot {
         Slot(first.wrapping_mul(31).wrapping_add(second))
     }
 
-    /// The index among the slots.
     fn index(self) -> usize {
         (self.0 % SLOTS as u64) as usize
     }

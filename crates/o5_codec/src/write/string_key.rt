@@ -4,11 +4,8 @@ use osm_model::{Kind, Tag, Text};
 /// The strings of a user, of a tag or of a member. Contracts see the entry that has them.
 #[derive(Clone, Copy)]
 pub(crate) enum StringKey<'a> {
-    /// A user's id and name.
     User { uid: u64, name: &'a [u8] },
-    /// A tag's key and value.
     Tag { key: &'a [u8], value: &'a [u8] },
-    /// A member's kind and role.
     Member { kind: Kind, role: &'a [u8] },
 }
 
@@ -17,7 +14,6 @@ impl<'a> StringKey<'a> {
     ghost use Rattle.o5_codec.specs.Writing.{user_entry, tag_entry, member_entry};
     ghost use Rattle.o5_codec.specs.StringKey.{formed_of};
 
-    /// The strings of a user.
     #[inline(always)]
     pub(crate) fn of_user(uid: u64, user: &'a Text) -> StringKey<'a>
         ensures { formed_of result ≡ user_entry uid user.now }
@@ -26,7 +22,6 @@ impl<'a> StringKey<'a> {
         StringKey::User { uid, name }
     }
 
-    /// The strings of a tag.
     #[inline(always)]
     pub(crate) fn of_tag(tag: &'a Tag) -> StringKey<'a>
         ensures { formed_of result ≡ tag_entry tag.now }
@@ -35,7 +30,7 @@ impl<'a> StringKey<'a> {
         StringKey::Tag { key, value }
     }
 
-    /// The string of a member.
+    /// The single string of a member: its kind's digit, and its role.
     #[inline(always)]
     pub(crate) fn of_member(kind: Kind, role: &'a Text) -> StringKey<'a>
         ensures { formed_of result ≡ member_entry kind role.now }
