@@ -71,7 +71,7 @@ fn to_version(
     Ok(Version::from_checked_data(alloc, spare, id, meta, body)?)
 }
 
-/// The metadata, from the fields of a line.
+/// The metadata of a version. The numbers of fields that the line lacks are 0. The user is taken out of `fields`.
 fn to_meta(fields: &mut Fields) -> Meta
     ensures meta { result ≡ spec.meta_of fields.old }
     ensures rest { fields.new ≡ record fields.old { user = None } }
@@ -85,7 +85,11 @@ fn to_meta(fields: &mut Fields) -> Meta
     }
 }
 
-/// The body, from the fields of a line.
+/// The body of a version. The lists are taken out of `fields`; a list whose field the line lacks is empty.
+///
+/// # Errors
+///
+/// `NoLocation` if a visible node lacks its longitude or its latitude.
 fn to_body(alloc: Global, kind: Kind, fields: &mut Fields) -> Result<Body, OplReason>
     ensures { result ≡ spec.reading_body kind fields.old }
 {

@@ -52,7 +52,7 @@ impl Model for LineReader {
 }
 
 impl LineReader {
-    /// A reader of lines.
+    /// A reader that has read no line. It allocates nothing.
     pub fn new(alloc: Global) -> LineReader {
         LineReader {
             alloc,

@@ -115,7 +115,7 @@ fn two_digits_at(text: &[u8], from: usize) -> Option<u16>
     Some(10 * tens + ones)
 }
 
-/// The number that a digit writes.
+/// The value of a decimal digit; `None` for another byte.
 #[inline(always)]
 fn digit_of(byte: u8) -> Option<u16>
     ensures value { result ≡ spec.digit_of byte }

@@ -13,15 +13,10 @@ const CUT_LANES: usize = 16;
 pub(crate) enum Delimiter {
     /// At each space and each tab.
     Blanks,
-    /// At each comma.
     Commas,
-    /// At each equals sign.
     Equals,
-    /// At each at sign.
     Ats,
-    /// At each percent sign.
     Percents,
-    /// At each point.
     Points,
 }
 

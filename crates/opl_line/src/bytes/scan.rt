@@ -9,7 +9,7 @@ ghost use Rattle.std.specs.List.{prefix_len};
 ghost use Rattle.std.specs.Simd.Lanes.{chunk};
 ghost use Rattle.opl_line.specs.Scan.{marks_of};
 
-/// A class of bytes.
+/// A class of bytes. `find` tests `LANES` bytes at a time by `marks`, and the last few one by one by `contains`.
 pub(crate) trait ByteClass<const LANES: usize>: Copy {
     /// The test whether a byte is of the class.
     ghost has: { Self → ℕ → Bool };
@@ -20,13 +20,11 @@ pub(crate) trait ByteClass<const LANES: usize>: Copy {
         requires { from + LANES ≤ length bytes.now }
         ensures { result ≡ marks_of (has self) (chunk from LANES bytes.now) };
 
-    /// Whether a byte is of the class.
     fn contains(self, byte: u8) -> bool
         ensures { result ≡ has self byte };
 }
 
-/// The offset of the first byte of a class. One step compares `LANES` bytes. Fewer bytes at the end are compared one by
-/// one.
+/// The offset of the first byte of a class.
 #[inline(always)]
 pub(crate) fn find<const LANES: usize, C: ByteClass<LANES>>(class: C, bytes: &[u8]) -> Option<usize>
     requires some { 0 < LANES }

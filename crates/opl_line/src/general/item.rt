@@ -12,7 +12,7 @@ use crate::number::read_id;
 use osm_model::{Kind, Member, Tag};
 use std::alloc::Global;
 
-/// An item of a list.
+/// An item of a list: a tag, a reference or a member.
 pub(crate) trait Item: Drop + Sized {
     ghost use Rattle.std.specs.Prelude.{List, ℕ, Result};
     ghost use Rattle.opl_line.specs.declared.reason.OplReason.{OplReason};

@@ -13,7 +13,7 @@ use crate::item::{USUAL_ITEM, kind_of_letter};
 use osm_model::{Kind, Member, Spare, Tag};
 use std::alloc::Global;
 
-/// An item of a list.
+/// An item of a list: a tag, a reference or a member.
 pub(crate) trait StraightItem: Drop + Sized {
     ghost form: { Self → List ℕ };
 

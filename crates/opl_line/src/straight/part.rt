@@ -15,7 +15,7 @@ const MOST_DIGITS: usize = 10;
 /// Each number of at most this many digits is an id.
 const MOST_ID_DIGITS: usize = 18;
 
-/// The number of bytes of a time.
+/// The number of bytes of `yyyy-mm-ddThh:mm:ssZ`.
 const TIME_LENGTH: usize = 20;
 
 /// A version number, a changeset or a user id, and the text after it.
@@ -31,7 +31,7 @@ pub(crate) fn parse_number(text: &[u8]) -> Option<(u64, &[u8])>
     Some((number, rest))
 }
 
-/// An id, and the text after it.
+/// An id of at most 18 digits, and the text after it.
 #[inline(always)]
 pub(crate) fn parse_id(text: &[u8]) -> Option<(i64, &[u8])>
     ensures text { IfSome result (λ read. text.now ≡ integer_text read.0 ++ read.1.now) }
@@ -46,7 +46,7 @@ pub(crate) fn parse_id(text: &[u8]) -> Option<(i64, &[u8])>
     Some((if is_negative { -id } else { id }, after))
 }
 
-/// A time, if there is one, and the text after it.
+/// A time in seconds since 1970-01-01T00:00:00Z, and the text after it. Without a time they are `None` and `text`.
 #[inline(always)]
 pub(crate) fn parse_time(text: &[u8]) -> (Option<u64>, &[u8])
     ensures text { text.now ≡ time_text result.0 ++ result.1.now }
@@ -61,7 +61,7 @@ pub(crate) fn parse_time(text: &[u8]) -> (Option<u64>, &[u8])
     }
 }
 
-/// A coordinate, and the text after it.
+/// A coordinate in units of 10^-7 degree, and the text after it.
 #[inline(always)]
 pub(crate) fn parse_coordinate(text: &[u8]) -> Option<(i32, &[u8])>
     ensures { IfSome result (λ read. text.now ≡ coordinate_text read.0 ++ read.1.now) }

@@ -17,7 +17,7 @@ use std::str;
 /// The number of bytes that one step compares.
 const TEXT_LANES: usize = 16;
 
-/// A text, and the bytes after it.
+/// A text in its canonical form, and the bytes after it. `None` for another form, and when out of memory.
 #[inline(always)]
 pub(crate) fn parse_text(alloc: Global, bytes: &[u8]) -> Option<(Text, &[u8])>
     ensures text { IfSome result (λ read. bytes.now ≡ escape read.0 ++ read.1.now) }
