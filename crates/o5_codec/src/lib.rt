@@ -14,4 +14,4 @@ pub use fault::EncodeFault;
 pub use read::decoder::Decoder;
 pub use read::number::{read_number, read_signed};
 pub use reason::O5Reason;
-pub use write::encoder::Encoder;
+pub use write::encoder::{Encoder, SEGMENT_RESET};

@@ -5,6 +5,7 @@ ghost use Rattle.osm_files.specs.EndMark as spec;
 ghost use Rattle.osm_files.specs.EndMark.{rest_with_mark};
 
 use crate::input::{Broken, Input};
+use crate::o5::O5_START;
 
 /// The number of bytes of the mark.
 const MARK_BYTES: usize = 7;
@@ -15,9 +16,6 @@ const END_MARK: [u8; MARK_BYTES] = *b"\n# end\n";
 /// The last bytes of an input that has given none. A line feed is before the first line; the other bytes aren't in the
 /// mark.
 const START_BYTES: [u8; MARK_BYTES] = *b"\0\0\0\0\0\0\n";
-
-/// The first byte of o5 files.
-const O5_START: u8 = 0xff;
 
 /// The rule for the end of an input.
 #[derive(Clone, Copy, Debug, PartialEq, Eq)]

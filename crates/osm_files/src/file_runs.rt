@@ -17,13 +17,13 @@ use crate::extent::FramedExtent;
 use crate::fault::Fault;
 use crate::input::{Broken, Input};
 use crate::key_order::first_falling;
+use crate::o5::O5_START;
 use crate::read_at::ReadAt;
 use crate::reason::Reason;
 use crate::set_order::{SetOrder, order_of_run};
 use crate::sorted_run::{BytesAtSplit, SortedRun};
 use crate::source::{FileSource, Source};
 use crate::split_file::SplitFile;
-use crate::unit::SEGMENT_RESET;
 use std::alloc::Global;
 
 /// Finds the sorted runs of `file`, which has `size` bytes. `input` is the file's number. `first` is the offset of the
@@ -275,7 +275,7 @@ fn is_lines(run: SortedRun, first: Option<u8>) -> bool
         return false;
     }
     match first {
-        Some(byte) => byte != SEGMENT_RESET,
+        Some(byte) => byte != O5_START,
         None => true,
     }
 }

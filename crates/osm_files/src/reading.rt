@@ -20,10 +20,11 @@ ghost use Rattle.osm_files.specs.Position.{Between, HasRead, StopsAt, FindsUnit,
 use crate::fault::{Fault, LENGTH_LIMIT};
 use crate::format::Format;
 use crate::input::Input;
+use crate::o5::{HEADER_LENGTH, O5_START, O5M_HEADER};
 use crate::placed::Placed;
 use crate::read_buffer::ReadBuffer;
 use crate::reason::Reason;
-use crate::unit::{FileState, O5M_HEADER, ReadUnit, SEGMENT_RESET};
+use crate::unit::{FileState, ReadUnit};
 use opl_line::LineReader;
 use osm_model::Version;
 use std::alloc::Global;
@@ -354,7 +355,7 @@ fn determines_format(bytes: &[u8]) -> bool
 {
     match bytes.first() {
         None => false,
-        Some(first) => *first != SEGMENT_RESET || bytes.len() >= 7,
+        Some(first) => *first != O5_START || bytes.len() >= HEADER_LENGTH,
     }
 }
 
@@ -363,7 +364,7 @@ fn format_of(bytes: &[u8]) -> Format
     ensures { result ≡ format_of bytes.now }
 {
     match bytes.first() {
-        Some(first) if *first == SEGMENT_RESET => o5_format(bytes),
+        Some(first) if *first == O5_START => o5_format(bytes),
         _ => Format::Opl,
     }
 }
@@ -372,7 +373,7 @@ fn format_of(bytes: &[u8]) -> Format
 fn o5_format(bytes: &[u8]) -> Format
     ensures { result ≡ (if is_o5m bytes.now then O5m else O5c) }
 {
-    if bytes.len() >= 7 && &bytes[..7] == O5M_HEADER.as_slice() {
+    if bytes.len() >= HEADER_LENGTH && &bytes[..HEADER_LENGTH] == O5M_HEADER.as_slice() {
         Format::O5m
     } else {
         Format::O5c

@@ -12,8 +12,8 @@ ghost use Rattle.osm_files.specs.FirstFault.{IsSetType};
 ghost use Rattle.osm_files.specs.SetKey as spec;
 
 use crate::line_key::Key;
-use crate::unit::{FILE_END, SEGMENT_RESET, is_lone, kind_of_type};
-use o5_codec::{read_number, read_signed};
+use crate::o5::{FILE_END, is_lone, kind_of_type};
+use o5_codec::{SEGMENT_RESET, read_number, read_signed};
 use osm_model::is_id;
 
 /// A part of an o5 file, read as far as its key: a reset, a lone byte or a data set.

@@ -10,11 +10,11 @@ use crate::file_runs::byte_at;
 use crate::input::Broken;
 use crate::key_order::{WINDOW, read_exact};
 use crate::line_key::Key;
+use crate::o5::{FILE_END, HEADER_LENGTH, is_header};
 use crate::read_at::ReadAt;
 use crate::reason::Reason;
 use crate::set_key::{KeyPart, read_part};
 use crate::sorted_run::SortedRun;
-use crate::unit::{FILE_END, is_header};
 use std::alloc::Global;
 
 /// The order of data sets by their keys.
@@ -113,12 +113,12 @@ fn first_set<F: ReadAt>(
     if run.lacks_header {
         return Ok(Some(run.start));
     }
-    if end < run.start || end - run.start < 7 {
+    if end < run.start || end - run.start < HEADER_LENGTH as u64 {
         return Ok(None);
     }
-    let header = read_exact(alloc, file, input, run.start, 7)?;
+    let header = read_exact(alloc, file, input, run.start, HEADER_LENGTH)?;
     if is_header(&header) {
-        Ok(Some(run.start + 7))
+        Ok(Some(run.start + HEADER_LENGTH as u64))
     } else {
         Ok(None)
     }

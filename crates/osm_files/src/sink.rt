@@ -12,8 +12,8 @@ ghost use Rattle.osm_files.specs.Sink as spec;
 
 use crate::fault::Fault;
 use crate::format::Format;
+use crate::o5::{FILE_END, O5C_HEADER, O5M_HEADER};
 use crate::output::Output;
-use crate::unit::{FILE_END, O5C_HEADER, O5M_HEADER};
 use crate::write::{write_all, write_fault};
 use o5_codec::Encoder;
 use osm_model::{History, Kind, Memory, Version};

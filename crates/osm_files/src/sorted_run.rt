@@ -2,7 +2,8 @@
 ghost use Rattle.std.specs.Prelude.{◌≡◌, ◌^◌, ◌<◌, ℕ, List, length, IfSome, if◌then◌else◌};
 ghost use Rattle.osm_files.specs.SortedRun as spec;
 
-use crate::unit::{FILE_END, O5M_HEADER, SEGMENT_RESET};
+use crate::o5::{FILE_END, O5M_HEADER};
+use o5_codec::SEGMENT_RESET;
 
 /// The header that is read before a part without one.
 const HEADER_BYTES: &[u8] = &O5M_HEADER;

@@ -9,23 +9,12 @@ ghost use Rattle.osm_files.specs.O5 as o5;
 ghost use Rattle.osm_files.specs.Reading.{Finds, FindsContent, FindsLast, state_data_of, IsGoodState, ends_at};
 ghost use Rattle.osm_files.specs.Units as spec;
 
+use crate::o5::{FILE_END, HEADER_LENGTH, O5_START, is_header, is_lone, kind_of_type};
 use crate::reason::Reason;
-use o5_codec::{Decoder, O5Reason, read_number};
+use o5_codec::{Decoder, O5Reason, SEGMENT_RESET, read_number};
 use opl_line::{LineReader, find_line_end, read_line};
-use osm_model::{Kind, Version};
+use osm_model::Version;
 use std::alloc::Global;
-
-/// The header of o5m files.
-pub(crate) const O5M_HEADER: [u8; 7] = *b"\xff\xe0\x04o5m2";
-
-/// The header of o5c files.
-pub(crate) const O5C_HEADER: [u8; 7] = *b"\xff\xe0\x04o5c2";
-
-/// The byte that ends an o5 file.
-pub(crate) const FILE_END: u8 = 0xfe;
-
-/// The byte that begins a segment, and an o5 file.
-pub(crate) const SEGMENT_RESET: u8 = 0xff;
 
 /// The most bytes that a number may have.
 const NUMBER_LENGTH: usize = 10;
@@ -102,39 +91,13 @@ fn read_line_unit(
 fn read_header(bytes: &[u8]) -> Result<Option<ReadUnit>, Reason>
     ensures { Finds (spec.header_unit bytes.now) result (spec.InSegment new_segment) }
 {
-    if bytes.len() < 7 {
+    if bytes.len() < HEADER_LENGTH {
         return Ok(None);
     }
-    if !is_header(&bytes[..7]) {
+    if !is_header(&bytes[..HEADER_LENGTH]) {
         return Err(Reason::BadHeader);
     }
-    no_version(7)
-}
-
-/// Whether `bytes` are the header of o5m or of o5c.
-pub(crate) fn is_header(bytes: &[u8]) -> bool
-    ensures { result ≡ spec.is_header bytes.now }
-{
-    bytes == O5M_HEADER.as_slice() || bytes == O5C_HEADER.as_slice()
-}
-
-/// The kind of object of a type byte.
-pub(crate) fn kind_of_type(byte: u8) -> Option<Kind>
-    ensures { result ≡ o5.kind_of_type byte }
-{
-    match byte {
-        0x10 => Some(Kind::Node),
-        0x11 => Some(Kind::Way),
-        0x12 => Some(Kind::Relation),
-        _ => None,
-    }
-}
-
-/// Whether a byte is a lone one, which is skipped.
-pub(crate) fn is_lone(byte: u8) -> bool
-    ensures { result ≡ o5.is_lone byte }
-{
-    byte >= 0xf0 && byte <= 0xfd
+    no_version(HEADER_LENGTH)
 }
 
 /// Whether the number at the front of `bytes` ends there, or has too many bytes to be a number.
@@ -247,7 +210,7 @@ impl FileState {
         ensures good { IsGoodState result }
     {
         match bytes.first() {
-            Some(byte) if *byte == SEGMENT_RESET => FileState::Header,
+            Some(byte) if *byte == O5_START => FileState::Header,
             _ => FileState::Lines(LineReader::new(alloc)),
         }
     }

@@ -6,12 +6,10 @@ ghost use Rattle.osm_files.specs.WholeLines.{with_line_end};
 ghost use Rattle.osm_files.specs.declared.whole_lines.Ending.TheVariants as ending;
 
 use crate::input::{Broken, Input};
+use crate::o5::O5_START;
 
 /// The line end of OPL that this project writes, `LF`.
 const LINE_END: u8 = b'\n';
-
-/// The first byte of o5 files.
-const O5_START: u8 = 0xff;
 
 /// The kind of the last byte that an input gave.
 #[derive(Clone, Copy, Debug, PartialEq, Eq)]

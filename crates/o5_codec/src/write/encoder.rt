@@ -12,6 +12,9 @@ use osm_model::{Kind, Memory, Version};
 use std::alloc::Global;
 use std::marker::Model;
 
+/// The byte that begins a segment. It resets what later data sets are relative to.
+pub const SEGMENT_RESET: u8 = 0xff;
+
 /// Writes the data sets of o5m and o5c files in sequence, each relative to those before it in its segment. The bytes of
 /// a version depend only on the version and on the versions written before it.
 #[derive(Drop)]
@@ -201,7 +204,7 @@ fn append_any_set(
     ensures kept { Extends out.old.items out.new.items }
 {
     if begins {
-        out.push(0xff)?;
+        out.push(SEGMENT_RESET)?;
     }
     out.push(type_byte(kind))?;
     append_number(out, set.len() - 2)?;

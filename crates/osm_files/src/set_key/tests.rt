@@ -1,6 +1,6 @@
 //! Keys of single parts.
 use super::read_part;
-use crate::unit::kind_of_type;
+use crate::o5::kind_of_type;
 use o5_codec::{Decoder, read_number};
 use std::alloc::Global;
 
