@@ -14,6 +14,7 @@ mod time;
 
 pub use bytes::line_end::find_line_end;
 pub use line::{LineReader, read_line, write_line};
+pub use number::leading_digits;
 pub use reason::OplReason;
 pub use time::read_time;
 

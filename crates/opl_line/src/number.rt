@@ -153,9 +153,10 @@ pub(crate) fn scale(decimals: usize) -> u64
     10u64.pow(7 - decimals as u32)
 }
 
-/// The number that the first digits of a text write, and the number of these digits. At most `most` digits are read.
+/// The number that the first digits of a text write, and the number of these digits, of which at most `most` are read.
+/// Both are 0 if the text begins with no digit.
 #[inline(always)]
-pub(crate) fn leading_digits(text: &[u8], most: usize) -> (u64, usize)
+pub fn leading_digits(text: &[u8], most: usize) -> (u64, usize)
     requires { most ≤ 19 }
     ensures within { result.1 ≤ length text.now }
     ensures few { result.1 ≤ most }

@@ -4,14 +4,12 @@
 //! Assumes: a line of the usual form begins with a letter, an id, a space, `v` and a version number.
 //! Otherwise: the line is read whole.
 //! Compared by: `keys_are_those_of_whole_lines`.
-ghost use Rattle.std.specs.Prelude.{◌≡◌, ◌<◌, ◌≤◌, ◌^◌, ◌∷◌, true, length, take, IfSome};
-ghost use Rattle.std.specs.List.{list_all};
-ghost use Rattle.std.specs.Char.{is_ascii_digit};
+ghost use Rattle.std.specs.Prelude.{◌≡◌, ◌<◌, ◌≤◌, ◌^◌, ◌∷◌, IfSome};
 ghost use Rattle.osm_model.specs.Kind.{kind_letter};
-ghost use Rattle.opl_line.specs.Number.{decimal_value, with_sign};
+ghost use Rattle.opl_line.specs.Number.{with_sign};
 ghost use Rattle.osm_files.specs.LineKey as spec;
 
-use opl_line::{LineReader, OplReason};
+use opl_line::{LineReader, OplReason, leading_digits};
 use osm_model::{Kind, Version};
 use std::cmp::Ordering;
 
@@ -150,32 +148,11 @@ fn strip_number(text: &[u8], most: usize) -> Option<(u64, &[u8])>
     ensures digits { IfSome result (λ read. spec.BeginsWithNumeral text.now read.0 read.1.now) }
     ensures bound { IfSome result (λ read. read.0 < 10 ^ most) }
 {
-    let (number, count) = leading_digits(text, text.len().min(most));
+    let (number, count) = leading_digits(text, most);
     if count == 0 {
         return None;
     }
     Some((number, &text[count..]))
-}
-
-/// The number that the first digits of a text write, and the number of these digits. Only the first `end` bytes are
-/// read.
-fn leading_digits(text: &[u8], end: usize) -> (u64, usize)
-    requires few { end ≤ 18 }
-    requires within { end ≤ length text.now }
-    ensures within { result.1 ≤ end }
-    ensures digits { list_all is_ascii_digit (take result.1 text.now) ≡ true }
-    ensures value { result.0 ≡ decimal_value (take result.1 text.now) }
-    ensures bound { result.0 < 10 ^ result.1 }
-{
-    let mut number: u64 = 0;
-    for index in 0..end {
-        let byte = text[index];
-        if !byte.is_ascii_digit() {
-            return (number, index);
-        }
-        number = 10 * number + u64::from(byte) - u64::from(b'0');
-    }
-    (number, end)
 }
 
 /// The text after `byte`, if the text begins with it.
