@@ -14,7 +14,7 @@ ghost use Rattle.osm_model.specs.declared.fault.ValueFault.TheVariants as fault;
 
 use crate::id::is_id;
 use crate::same::Same;
-use crate::{Body, Kind, Memory, Meta, Spare, Text, ValueFault};
+use crate::{Body, Key, Kind, Memory, Meta, Object, Spare, Text, ValueFault};
 use std::alloc::Global;
 use std::cmp::Ordering;
 use std::marker::Model;
@@ -300,34 +300,18 @@ impl Version {
         &self.parts.body
     }
 
-    /// The order of the objects: the kind, ids above 0 after the others, the absolute value of the id.
+    /// The order of the objects, [`Object::order`].
     pub fn object_cmp(&self, other: &Version) -> Ordering
         ensures { result ≡ object_cmp self.now other.now }
     {
-        let kind = self.kind().index().cmp(&other.kind().index());
-        if kind != Ordering::Equal {
-            return kind;
-        }
-        let (id, other_id) = (self.id(), other.id());
-        if id > 0 && other_id > 0 {
-            return id.cmp(&other_id);
-        }
-        let positive = (id > 0).cmp(&(other_id > 0));
-        if positive != Ordering::Equal {
-            return positive;
-        }
-        id.unsigned_abs().cmp(&other_id.unsigned_abs())
+        Object::of(self).order(&Object::of(other))
     }
 
-    /// The order of the keys: the object, then the version number.
+    /// The order of the keys, [`Key::order`].
     pub fn key_cmp(&self, other: &Version) -> Ordering
         ensures { result ≡ key_cmp self.now other.now }
     {
-        let object = self.object_cmp(other);
-        if object != Ordering::Equal {
-            return object;
-        }
-        self.number().cmp(&other.number())
+        Key::of(self).order(&Key::of(other))
     }
 
     /// Takes the body out, and leaves the body of a deleted object of its kind.
