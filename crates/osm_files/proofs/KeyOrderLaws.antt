@@ -6,7 +6,9 @@ use Rattle.std.proofs.Common.{take-append-drop}
 use Rattle.std.proofs.Math.Seq.{take-add, take-append-add}
 use Rattle.std.proofs.lemmas.Bool.{and_parts, not-true, false≢true}
 use Rattle.std.proofs.lemmas.List.{drop-drop, length-take-le, take-append-le, take_all}
+use Rattle.osm_model.specs.declared.object.Key.{Key}
 use Rattle.osm_model.specs.Data.{VersionData}
+use Rattle.osm_model.specs.Order.{key_of}
 use Rattle.osm_model.specs.Pairwise.{Pairwise}
 use Rattle.osm_model.specs.VersionSet.{VersionSet}
 use Rattle.opl_line.specs.Delimiter.{is_line_end, with_byte, split_first, pieces_of}
@@ -20,12 +22,11 @@ use Rattle.osm_files.specs.declared.key_order.RisingLines.{RisingLines}
 use Rattle.osm_files.specs.declared.key_order.Stop.{Stop}
 use Rattle.osm_files.specs.declared.key_order.Stop.TheVariants.{Falls, Refused}
 use Rattle.osm_files.specs.declared.key_order.StopAt.{StopAt}
-use Rattle.osm_files.specs.declared.line_key.Key.{Key}
 use Rattle.osm_files.specs.FileRuns.{IsAccepted, IsReadFailure}
 use Rattle.osm_files.specs.Held.{Holds, HoldsSorted}
 use Rattle.osm_files.specs.KeyOrder.{CameAt, AreRising, Rise, IsNoFile, EndsLine, StepsOver, lines_to, StopsIn, ReadsLines, IsWithin}
 use Rattle.osm_files.specs.KeyOrder.{EndsLines, bytes_between, IsOrderOfLines, outcome_at, outcome_of}
-use Rattle.osm_files.specs.LineKey.{key_of, is_key_below, IsKeyOf, keys_rise}
+use Rattle.osm_files.specs.LineKey.{is_key_below, IsKeyOf, keys_rise}
 use Rattle.osm_files.specs.Opl.{is_read, OplFile}
 use Rattle.osm_files.specs.ReadAt.{AreAt, AreLast}
 use Rattle.osm_files.specs.Units.{InOpl, start_of}

@@ -1,11 +1,13 @@
 -- Files whose keys don't fall are sorted, if they are accepted.
 use Rattle.std.proofs.Common.{◌≡◌, ℕ, ℤ, pos, ◌==◌, true, false, not, cond, ◌&&◌, List, [], ◌∷◌, ◌++◌, Option, Some, None}
 use Rattle.std.proofs.Common.{◌^◌, nat_lt, Ok, Err, refl, sym, ap, ◌∙◌, subst, append-nil}
+use Rattle.osm_model.specs.declared.object.Key.{Key}
 use Rattle.osm_model.specs.declared.kind.Kind.{Kind}
 use Rattle.osm_model.specs.declared.kind.Kind.TheVariants as kind
 use Rattle.osm_model.specs.declared.body.Body.{Body}
 use Rattle.osm_model.specs.Data.{VersionData, kind_of, normal_body}
 use Rattle.osm_model.specs.VersionSet.{VersionSet}
+use Rattle.osm_model.specs.Order.{key_of}
 use Rattle.o5_codec.specs.declared.reason.O5Reason.TheVariants.{NoVersion, OutOfRange}
 use Rattle.o5_codec.specs.declared.read.segment.Segment.{Segment}
 use Rattle.o5_codec.specs.Base.{moved_id, within_range}
@@ -17,11 +19,10 @@ use Rattle.o5_codec.specs.Spelling.{BodyInAll, SpellsSet}
 use Rattle.o5_codec.proofs.EarlierSteps.{set_bases}
 use Rattle.o5_codec.proofs.NumberLaws.{number_only, signed_only}
 use Rattle.o5_codec.proofs.SoundStrings.{first_ok, same_value, tested_ok}
-use Rattle.osm_files.specs.declared.line_key.Key.{Key}
 use Rattle.osm_files.specs.FileRuns.{IsAccepted}
 use Rattle.osm_files.specs.Held.{HoldsSorted}
 use Rattle.osm_files.specs.KeyOrder.{AreRising}
-use Rattle.osm_files.specs.LineKey.{key_of, is_key_below, keys_rise, last_key}
+use Rattle.osm_files.specs.LineKey.{is_key_below, keys_rise, last_key}
 use Rattle.osm_files.specs.O5.{end_byte, FilePart, Reset, Lone, Skipped, Object, PartsSpell, O5File}
 use Rattle.osm_files.specs.SetKey.{BeginsWithKey, KeyRises, AreKeyed, IsKeyedFile}
 use Rattle.osm_files.specs.Units.{BeforeHeader, start_of}
@@ -73,10 +74,10 @@ module _ (k : Kind) (s : Segment) (content : List ℕ) (base id : ℤ) (number :
       ap (λ x. x.0.version) meta.6 ∙ numbered here meta.0 version.2 ∙ ap (λ x. x.0) same
 
   -- The key at the front of a content is the key of the version that the content spells.
-  pub same_key : key_of v ≡ record { kind = k; id = id; number = number }
+  pub same_key : key_of v ≡ record { object = record { kind = k; id = id }; number = number }
   same_key =
       let body = bodied k spells.meta.1 spells.meta.2 spells.body spells.body_at_front in
-      ap (λ x. key_of x.0) spells.made ∙ (λ i. record { kind = body i; id = same_id.1 i; number = same_number i })
+      ap (λ x. key_of x.0) spells.made ∙ (λ i. record { object = record { kind = body i; id = same_id.1 i }; number = same_number i })
 
   -- The id at the front of a content is the next base of ids.
   pub same_base : next.bases.id ≡ id
@@ -123,7 +124,7 @@ rising_parts s base before (Skipped c size content ∷ parts) next after version
 rising_parts s base before (Object k size content ∷ parts) next after versions is (key, b, last, has, rises, more)
     (number, (v, end, others, are, spells, spelled)) =
     let begins = has.1.1 in
-    let this : Key = record { kind = k; id = b; number = has.1.0 } in
+    let this : Key = record { object = record { kind = k; id = b }; number = has.1.0 } in
     let same = same_key k s content base b has.1.0 begins is v end spells in
     let rest = rising_parts end b last parts next after others (same_base k s content base b has.1.0 begins is v end spells) more
     spelled in

@@ -6,6 +6,7 @@ use Rattle.std.specs.List.{list_all, IsDistinct, AllByRecursion}
 use Rattle.std.specs.Char.{is_ascii_digit}
 use Rattle.std.proofs.lemmas.Bool.{and_parts, eqb-true, true≢false}
 use Rattle.std.proofs.lemmas.Bool.Decides.{nat_tests}
+use Rattle.osm_model.specs.declared.object.Key.{Key}
 use Rattle.osm_model.specs.declared.kind.Kind.{Kind}
 use Rattle.osm_model.specs.declared.kind.Kind.TheVariants as kind
 use Rattle.osm_model.specs.declared.body.Body.{Body}
@@ -15,6 +16,7 @@ use Rattle.osm_model.specs.declared.tags.Tag.{Tag}
 use Rattle.osm_model.specs.Data.{VersionData, kind_of, normal_body, version_of}
 use Rattle.osm_model.specs.Kind.{kind_letter}
 use Rattle.osm_model.specs.New.{first_fault, unless_faulty}
+use Rattle.osm_model.specs.Order.{key_of}
 use Rattle.osm_model.specs.Pairwise.{Pairwise}
 use Rattle.opl_line.specs.Content.{SpellsNumeral, SpellsId, plain_id, minus_id, SpellsObject}
 use Rattle.opl_line.specs.Delimiter.{is_blank, split_all, pieces_of}
@@ -27,8 +29,7 @@ use Rattle.opl_line.specs.Spells.{is_full, fields_of_parts, Spells}
 use Rattle.opl_line.proofs.ContentLaws.{all_weaker}
 use Rattle.opl_line.proofs.CutLaws.{cut_split, split_front, split_never}
 use Rattle.opl_line.proofs.SpellsLaws.{object_read, one_reading}
-use Rattle.osm_files.specs.declared.line_key.Key.{Key}
-use Rattle.osm_files.specs.LineKey.{key_of, IsKeyOf, BeginsWithNumeral, BeginsWithId, is_field_end}
+use Rattle.osm_files.specs.LineKey.{IsKeyOf, BeginsWithNumeral, BeginsWithId, is_field_end}
 
 -- ---- the version number
 first_byte : (a b : ℕ) (xs ys : List ℕ) → a ∷ xs ≡ b ∷ ys → a ≡ b
@@ -130,26 +131,27 @@ one_object field k l a b s t =
 
 -- A line whose first fields are an object and a version number spells only versions of their key.
 spelled_key : (line : List ℕ) (key : Key) (field digits : List ℕ) (more : List (List ℕ))
-    → split_all is_blank line ≡ (kind_letter key.kind ∷ field) ∷ (118 ∷ digits) ∷ more → SpellsId field key.id
+    → split_all is_blank line ≡ (kind_letter key.object.kind ∷ field) ∷ (118 ∷ digits) ∷ more → SpellsId field key.object.id
     → SpellsNumeral digits key.number → (v : VersionData) → Spells line v → key_of v ≡ key
 spelled_key line key field digits more pieces id number v s =
     let l = s.line_parts in
-    let both : (kind_letter key.kind ∷ field) ∷ (118 ∷ digits) ∷ more ≡ l.object ∷ l.others = sym pieces ∙ l.fields in
-    let object : kind_letter key.kind ∷ field ≡ l.object = ap (λ xs. get_or xs 0 []) both in
+    let both : (kind_letter key.object.kind ∷ field) ∷ (118 ∷ digits) ∷ more ≡ l.object ∷ l.others = sym pieces ∙ l.fields in
+    let object : kind_letter key.object.kind ∷ field ≡ l.object = ap (λ xs. get_or xs 0 []) both in
     let others : (118 ∷ digits) ∷ more ≡ l.others = ap (drop 1) both in
-    let names : SpellsObject (kind_letter key.kind ∷ field) key.kind key.id = record { digits = field; lettered = refl; spelled = id } in
-    let same = one_object (kind_letter key.kind ∷ field) key.kind s.kind key.id s.id names
+    let names : SpellsObject (kind_letter key.object.kind ∷ field) key.object.kind key.object.id =
+    record { digits = field; lettered = refl; spelled = id } in
+    let same = one_object (kind_letter key.object.kind ∷ field) key.object.kind s.kind key.object.id s.id names
     (subst (λ xs. SpellsObject xs s.kind s.id) (sym object) l.names) in
     let count : (fields_of_parts s.parts).number ≡ Some key.number =
     numbered s.kind digits key.number (filter is_full more) s.parts number
     (subst (λ xs. Pairwise (SpellsPart s.kind) (filter is_full xs) s.parts) (sym others) l.spelled) l.different in
     let made : version_of s.id (meta_of (fields_of_parts s.parts)) s.version.body ≡ v =
     made_of (first_fault s.id (meta_of (fields_of_parts s.parts)) s.version.body) _ v s.version.made in
-    let kinds : kind_of (normal_body s.version.body) ≡ key.kind =
+    let kinds : kind_of (normal_body s.version.body) ≡ key.object.kind =
     normal_kind s.version.body ∙ body_kind s.kind (fields_of_parts s.parts) s.version.body s.version.has_body ∙ sym same.0 in
-    let ids : s.id ≡ key.id = sym same.1 in
+    let ids : s.id ≡ key.object.id = sym same.1 in
     let numbers : unwrap_or (fields_of_parts s.parts).number 0 ≡ key.number = ap (λ o. unwrap_or o 0) count in
-    sym (ap key_of made) ∙ (λ i. record { kind = kinds i; id = ids i; number = numbers i })
+    sym (ap key_of made) ∙ (λ i. record { object = record { kind = kinds i; id = ids i }; number = numbers i })
 
 -- ---- the pieces of a line of the usual form
 abbrev is_free : ℕ → Bool
@@ -197,18 +199,18 @@ not_comment kind.Relation bytes = refl
 
 -- A line of the usual form has its key.
 pub usual_line : (line : List ℕ) (key : Key) (after_letter after_id after_space after_v rest : List ℕ)
-    → line ≡ kind_letter key.kind ∷ after_letter → BeginsWithId after_letter key.id after_id → after_id ≡ 32 ∷ after_space
+    → line ≡ kind_letter key.object.kind ∷ after_letter → BeginsWithId after_letter key.object.id after_id → after_id ≡ 32 ∷ after_space
     → after_space ≡ 118 ∷ after_v → BeginsWithNumeral after_v key.number rest → is_field_end rest ≡ true → IsKeyOf line key
 usual_line line key after_letter after_id after_space after_v rest letter (field, id_is, id) space v (digits, number_is, number) ends =
-    let object : List ℕ = kind_letter key.kind ∷ field in
-    let free : list_all is_free object ≡ true = letter_free key.kind field (id_free field key.id id) in
+    let object : List ℕ = kind_letter key.object.kind ∷ field in
+    let free : list_all is_free object ≡ true = letter_free key.object.kind field (id_free field key.object.id id) in
     let piece = ended_piece (118 ∷ digits) rest (numeral_free digits number.numeral) ends in
     let whole : line ≡ object ++ 32 ∷ 118 ∷ (digits ++ rest) =
-    letter ∙ ap (λ xs. kind_letter key.kind ∷ xs)
+    letter ∙ ap (λ xs. kind_letter key.object.kind ∷ xs)
     (id_is ∙ ap (λ xs. field ++ xs) (space ∙ ap (λ xs. 32 ∷ xs) (v ∙ ap (λ xs. 118 ∷ xs) number_is))) in
     let pieces : split_all is_blank line ≡ object ∷ (118 ∷ digits) ∷ piece.0 =
     ap (split_all is_blank) whole ∙ first_piece object (118 ∷ (digits ++ rest)) free ∙ ap (λ ps. object ∷ ps) piece.1 in (
-      ap is_skipped letter ∙ not_comment key.kind after_letter,
+      ap is_skipped letter ∙ not_comment key.object.kind after_letter,
       spelled_key line key field digits piece.0 pieces id number,
     )
 

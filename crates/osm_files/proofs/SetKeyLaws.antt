@@ -62,7 +62,7 @@ module _ (b : ℕ) (bytes content rest : List ℕ) (n size : ℕ) (read : number
   -- An object's data set, if its content begins with a key.
   pub object_read : (k : Kind) (base id : ℤ) (number count : ℕ) → kind_of_type b ≡ Some k → count ≡ min (length content) n
       → BeginsWithKey base (take count content) id number
-      → IsPartOf base (record { size = size; key = Some (record { kind = k; id = id; number = number }); base = id })
+      → IsPartOf base (record { size = size; key = Some (record { object = record { kind = k; id = id }; number = number }); base = id })
       (take size (b ∷ (bytes ++ rest)))
   object_read k base id number count type few begins =
       let set = front_set in

@@ -4,7 +4,7 @@ use Rattle.std.proofs.Common.{refl, sym, ap, ◌∙◌, subst, arith, append-nil
 use Rattle.std.proofs.Math.Seq.{take-add}
 use Rattle.std.proofs.lemmas.Grind.{flat_map-append}
 use Rattle.std.proofs.lemmas.List.{drop-append-le, take-take}
-use Rattle.osm_files.specs.declared.line_key.Key.{Key}
+use Rattle.osm_model.specs.declared.object.Key.{Key}
 use Rattle.osm_files.specs.declared.set_key.KeyPart.{KeyPart}
 use Rattle.osm_files.specs.declared.set_order.RisingSets.{RisingSets}
 use Rattle.osm_files.specs.KeyOrder.{bytes_between}

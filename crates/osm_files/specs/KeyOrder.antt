@@ -1,6 +1,7 @@
 -- The order of OPL lines by their keys: own rules of this project.
 use Rattle.std.specs.Prelude.{◌≡◌, ◌⊎◌, ℕ, ◌+◌, ◌-◌, ◌≤◌, Bool, true, false, List, [], ◌∷◌, ◌++◌, length, take, drop}
 use Rattle.std.specs.Prelude.{filter, Option, Some, None, Result, Ok, Err}
+use Rattle.osm_model.specs.declared.object.Key.{Key}
 use Rattle.osm_model.specs.Data.{VersionData}
 use Rattle.osm_model.specs.Pairwise.{Pairwise}
 use Rattle.opl_line.specs.Delimiter.{is_line_end}
@@ -11,7 +12,6 @@ use Rattle.osm_files.specs.declared.key_order.RisingLines.{RisingLines}
 use Rattle.osm_files.specs.declared.key_order.Stop.{Stop}
 use Rattle.osm_files.specs.declared.key_order.Stop.TheVariants.{Falls, Refused}
 use Rattle.osm_files.specs.declared.key_order.StopAt.{StopAt}
-use Rattle.osm_files.specs.declared.line_key.Key.{Key}
 use Rattle.osm_files.specs.Fault.{fault_at}
 use Rattle.osm_files.specs.FileRuns.{IsReadFailure}
 use Rattle.osm_files.specs.LineKey.{keys_rise, last_key}

@@ -1,31 +1,20 @@
 -- The keys of OPL lines: own rules of this project.
-use Rattle.std.specs.Prelude.{◌≡◌, ◌⊎◌, ℕ, ℤ, Bool, true, false, not, ◌&&◌, ◌==◌, List, [], ◌∷◌, ◌++◌, unsigned_abs}
+use Rattle.std.specs.Prelude.{◌≡◌, ◌⊎◌, ℕ, ℤ, Bool, true, false, not, ◌&&◌, ◌==◌, List, [], ◌∷◌, ◌++◌}
 use Rattle.std.specs.Prelude.{Option, Some, None, Result, Ok, Err}
-use Rattle.std.specs.declared.cmp.Ordering.{Ordering}
-use Rattle.std.specs.Ordering.{then_cmp, on, nat_cmp, bool_cmp, is_lt}
-use Rattle.osm_model.specs.Data.{VersionData, kind_of}
-use Rattle.osm_model.specs.Kind.{kind_order}
-use Rattle.osm_model.specs.Order.{is_positive}
+use Rattle.std.specs.Ordering.{is_lt}
+use Rattle.osm_model.specs.declared.object.Key.{Key}
+use Rattle.osm_model.specs.Data.{VersionData}
+use Rattle.osm_model.specs.Order.{key_of, key_order}
 use Rattle.opl_line.specs.Content.{SpellsId, SpellsNumeral}
 use Rattle.opl_line.specs.Reading.{is_skipped}
 use Rattle.opl_line.specs.Spells.{Spells, SpellsNothing}
 use Rattle.opl_line.specs.declared.reason.OplReason.{OplReason}
 use Rattle.opl_line.specs.declared.reason.OplReason.TheVariants as opl
-use Rattle.osm_files.specs.declared.line_key.Key.{Key}
-
--- the key of a version
-abbrev pub key_of : VersionData → Key
-key_of v = record { kind = kind_of v.body; id = v.id; number = v.number }
-
--- the order of two keys: that of their versions
-abbrev pub keys_cmp : Key → Key → Ordering
-keys_cmp = then_cmp (then_cmp (then_cmp (on (λ k. kind_order k.kind) nat_cmp) (on (λ k. is_positive k.id) bool_cmp))
-    (on (λ k. unsigned_abs k.id) nat_cmp)) (on (λ k. k.number) nat_cmp)
 
 -- is the key below the key before it, if there is one?
 abbrev pub is_key_below : Key → Option Key → Bool
 is_key_below key None = false
-is_key_below key (Some before) = is_lt (keys_cmp key before)
+is_key_below key (Some before) = is_lt (key_order key before)
 
 -- the line isn't skipped, and each version that it spells has this key
 abbrev pub IsKeyOf : List ℕ → Key → Type 0

@@ -2,10 +2,10 @@
 use Rattle.std.specs.Prelude.{◌≡◌, ◌⊎◌, ℕ, ℤ, pos, true, false, List, [], ◌∷◌, ◌++◌, length}
 use Rattle.std.specs.Prelude.{Option, Some, None, Ok}
 use Rattle.std.specs.List.{flat_map}
+use Rattle.osm_model.specs.declared.object.Key.{Key}
 use Rattle.o5_codec.specs.Base.{moved_id}
 use Rattle.o5_codec.specs.Number.{SpellsNumber}
 use Rattle.o5_codec.specs.Spelling.{NumberAtFront, SignedAtFront}
-use Rattle.osm_files.specs.declared.line_key.Key.{Key}
 use Rattle.osm_files.specs.declared.set_key.KeyPart.{KeyPart}
 use Rattle.osm_files.specs.LineKey.{is_key_below}
 use Rattle.osm_files.specs.O5.{o5m_header, o5c_header, end_byte, is_lone, IsOtherType, FilePart}
@@ -24,8 +24,9 @@ HasKey base Reset key next = (key ≡ None) × (next ≡ pos 0)
 HasKey base (Lone b) key next = (is_lone b ≡ true) × (key ≡ None) × (next ≡ base)
 HasKey base (Skipped b size content) key next =
     IsOtherType b × SpellsNumber size (length content) × (key ≡ None) × (next ≡ base)
-HasKey base (Object k size content) key next = SpellsNumber size (length content) × ((number : ℕ)
-    × BeginsWithKey base content next number × (key ≡ Some (record { kind = k; id = next; number = number })))
+HasKey base (Object k size content) key next = SpellsNumber size (length content)
+    × ((number : ℕ) × BeginsWithKey base content next number
+    × (key ≡ Some (record { object = record { kind = k; id = next }; number = number })))
 
 -- the bytes are a part with this key
 abbrev pub IsPartOf : ℤ → KeyPart → List ℕ → Type 0

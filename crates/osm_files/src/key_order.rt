@@ -7,10 +7,11 @@ ghost use Rattle.osm_files.specs.ReadAt.{AreAt, AreLast};
 
 use crate::fault::Fault;
 use crate::input::Broken;
-use crate::line_key::{Key, read_key};
+use crate::line_key::{is_key_below, read_key};
 use crate::read_at::ReadAt;
 use crate::reason::Reason;
 use opl_line::{LineReader, OplReason, find_line_end};
+use osm_model::Key;
 use std::alloc::Global;
 
 /// The number of bytes of a window. A window is larger only if a line doesn't end in it.
@@ -224,7 +225,7 @@ fn next_key(reader: &mut LineReader, line: &[u8], last: Option<Key>) -> Result<O
 {
     match read_key(reader, line) {
         Ok(Some(key)) => {
-            if key.is_below(last) {
+            if is_key_below(key, last) {
                 return Err(Stop::Falls);
             }
             Ok(Some(key))

@@ -10,8 +10,7 @@ ghost use Rattle.opl_line.specs.Number.{with_sign};
 ghost use Rattle.osm_files.specs.LineKey as spec;
 
 use opl_line::{LineReader, OplReason, leading_digits};
-use osm_model::{Kind, Version};
-use std::cmp::Ordering;
+use osm_model::{Key, Kind, Object};
 
 /// The most digits of an id in a line of the usual form. Each number of so few digits is an id.
 const MOST_ID_DIGITS: usize = 18;
@@ -19,56 +18,13 @@ const MOST_ID_DIGITS: usize = 18;
 /// The most digits of a version number in a line of the usual form. Each number of so few digits has 32 bits.
 const MOST_NUMBER_DIGITS: usize = 9;
 
-/// The key of a version.
-#[derive(Clone, Copy, Debug)]
-pub(crate) struct Key {
-    /// The kind of the version's object.
-    pub(crate) kind: Kind,
-    /// The id of the object.
-    pub(crate) id: i64,
-    /// The version number.
-    pub(crate) number: u64,
-}
-
-impl Key {
-    /// The key of `version`.
-    fn of_version(version: &Version) -> Key
-        ensures { result ≡ spec.key_of version.now }
-    {
-        Key {
-            kind: version.kind(),
-            id: version.id(),
-            number: version.number(),
-        }
-    }
-
-    /// Whether the key is below the key `before`, if there is one.
-    pub(crate) fn is_below(self, before: Option<Key>) -> bool
-        ensures { result ≡ spec.is_key_below self before }
-    {
-        match before {
-            Some(before) => self.order(before) == Ordering::Less,
-            None => false,
-        }
-    }
-
-    /// The order of two keys: that of their versions, `Version::key_cmp`.
-    fn order(self, other: Key) -> Ordering
-        ensures { result ≡ spec.keys_cmp self other }
-    {
-        let kind = self.kind.index().cmp(&other.kind.index());
-        if kind != Ordering::Equal {
-            return kind;
-        }
-        let positive = (self.id > 0).cmp(&(other.id > 0));
-        if positive != Ordering::Equal {
-            return positive;
-        }
-        let size = self.id.unsigned_abs().cmp(&other.id.unsigned_abs());
-        if size != Ordering::Equal {
-            return size;
-        }
-        self.number.cmp(&other.number)
+/// Whether `key` is below the key `before`, if there is one.
+pub(crate) fn is_key_below(key: Key, before: Option<Key>) -> bool
+    ensures { result ≡ spec.is_key_below key before }
+{
+    match before {
+        Some(before) => key.order(&before).is_lt(),
+        None => false,
     }
 }
 
@@ -86,7 +42,7 @@ pub(crate) fn read_key(reader: &mut LineReader, line: &[u8]) -> Result<Option<Ke
     }
     match reader.read(line) {
         Ok(Some(version)) => {
-            let key = Key::of_version(&version);
+            let key = Key::of(&version);
             reader.reuse(version);
             Ok(Some(key))
         }
@@ -106,7 +62,10 @@ fn usual_key(line: &[u8]) -> Option<Key>
     if !is_field_end(text) {
         return None;
     }
-    Some(Key { kind, id, number })
+    Some(Key {
+        object: Object { kind, id },
+        number,
+    })
 }
 
 /// The kind of the letter at the front of a text, and the text after it.

@@ -11,10 +11,9 @@ ghost use Rattle.o5_codec.specs.Base.{moved_id};
 ghost use Rattle.osm_files.specs.FirstFault.{IsSetType};
 ghost use Rattle.osm_files.specs.SetKey as spec;
 
-use crate::line_key::Key;
 use crate::o5::{FILE_END, is_lone, kind_of_type};
 use o5_codec::{SEGMENT_RESET, read_number, read_signed};
-use osm_model::is_id;
+use osm_model::{Key, Object, is_id};
 
 /// A part of an o5 file, read as far as its key: a reset, a lone byte or a data set.
 #[derive(Clone, Copy, Debug)]
@@ -89,7 +88,10 @@ fn read_set(type_byte: u8, bytes: &[u8], base: i64, room: u64) -> Option<KeyPart
     let (id, number) = read_content(base, &content[..count])?;
     Some(KeyPart {
         size,
-        key: Some(Key { kind, id, number }),
+        key: Some(Key {
+            object: Object { kind, id },
+            number,
+        }),
         base: id,
     })
 }

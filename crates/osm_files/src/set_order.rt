@@ -9,12 +9,13 @@ use crate::fault::Fault;
 use crate::file_runs::byte_at;
 use crate::input::Broken;
 use crate::key_order::{WINDOW, read_exact};
-use crate::line_key::Key;
+use crate::line_key::is_key_below;
 use crate::o5::{FILE_END, HEADER_LENGTH, is_header};
 use crate::read_at::ReadAt;
 use crate::reason::Reason;
 use crate::set_key::{KeyPart, read_part};
 use crate::sorted_run::SortedRun;
+use osm_model::Key;
 use std::alloc::Global;
 
 /// The order of data sets by their keys.
@@ -48,7 +49,7 @@ impl RisingSets {
         let last = match part.key {
             None => self.last,
             Some(key) => {
-                if key.is_below(self.last) {
+                if is_key_below(key, self.last) {
                     return None;
                 }
                 Some(key)

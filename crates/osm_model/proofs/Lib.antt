@@ -15,6 +15,7 @@ pub mod RawLaws
 pub mod JoinedLaws
 pub mod LineLaws
 pub mod VersionLaws
+pub mod ObjectLaws
 pub mod RankLaws
 pub mod CursorLaws
 pub mod AppendLaws

@@ -1,31 +1,25 @@
 //! Canonical lines, appended to a vector.
 //!
 //! Why: `LineBytes` gives the same bytes from left to right, but takes more than twice as long. This module appends a
-//! line in stretches: it makes each stretch in a buffer, from its end to its start, and appends it at once. The line of
-//! a node without tags is one stretch. Eight of ten lines of an extract are lines of such nodes.
-//! Assumes: for one stretch, a visible node without tags whose user name is known to be plain.
-//! Otherwise: the line is appended part by part: the fields before the user name, the name, the tags, and the fields of
-//! the kind.
-//! Compared by: `both_writers_write_one_line` (opl_line) and `a_node_without_tags_has_one_line`.
-ghost use Rattle.std.specs.Prelude.{◌≡◌, ◌++◌, ◌+◌, [], ◌∷◌, ◌≤◌, ℕ, List, codes, length, drop, OnOk};
+//! line in stretches: it makes each stretch in a buffer, from its end to its start, and appends it at once.
+//! Assumes: nothing.
+//! Otherwise: always used. The stretches are the fields before the user name, each reference or few of them, the object
+//! of a member and a location. Texts are appended from left to right.
+//! Compared by: `both_writers_write_one_line` (opl_line).
+ghost use Rattle.std.specs.Prelude.{◌≡◌, ◌++◌, ◌∷◌, ◌≤◌, ℕ, List, codes, length, drop, OnOk};
 ghost use Rattle.osm_model.specs.Joined.{join_with};
 ghost use Rattle.osm_model.specs.Escape.{escape, escape_char};
 ghost use Rattle.osm_model.specs.Line.{list_text, tag_text, reference_text, member_text, kind_fields, line};
 ghost use Rattle.osm_model.specs.Append.{head_text, location_text};
 ghost use Rattle.osm_model.specs.Cursor.{more_text};
 ghost use Rattle.osm_model.specs.Extends.{Extends};
-ghost use Rattle.osm_model.specs.declared.body.Body.TheVariants.{Node};
 
 use crate::escape::raw_length;
-use crate::plain::INLINE_TEXT_BYTES;
 use crate::put::{ESCAPE_BYTES, put, put_byte, put_escaped, put_head, put_integer, put_location};
 use crate::{Body, Member, Memory, Tag, Text, Version};
 
 /// The size of the buffer of a stretch. The fields before a user name take fewer bytes.
 const STRETCH_BYTES: usize = 128;
-
-/// An upper bound on the length of the line of a node without tags whose user name is known to be plain.
-const BARE_NODE: usize = STRETCH_BYTES + INLINE_TEXT_BYTES + 64;
 
 impl Version {
     /// Appends the canonical OPL line, without a line end. After an error `out` holds its earlier bytes, and maybe a
@@ -34,47 +28,11 @@ impl Version {
         ensures appended { OnOk result (out.new.items ≡ out.old.items ++ line self.now) }
         ensures kept { Extends out.old.items out.new.items }
     {
-        match (self.user().plain(), self.body()) {
-            (Some(user), Body::Node { lon, lat, tags }) if tags.as_slice().is_empty() => {
-                append_bare_node(self, user, *lon, *lat, out)
-            }
-            _ => append_parts(self, out),
-        }
+        append_head(self, out)?;
+        append_text(self.user(), out)?;
+        append_list(b" T", self.body().tags(), out)?;
+        append_kind_fields(self.body(), out)
     }
-}
-
-/// Appends the line of a node without tags in one stretch. Most nodes have no tags.
-#[inline(always)]
-fn append_bare_node(
-    node: &Version,
-    user: &[u8],
-    lon: i32,
-    lat: i32,
-    out: &mut Vec<u8>,
-) -> Result<(), Memory>
-    requires body { node.now.body ≡ Node lon lat [] }
-    requires user { user.now ≡ escape node.now.user }
-    requires short { length user.now ≤ 24 }
-    ensures appended { OnOk result (out.new.items ≡ out.old.items ++ line node.now) }
-    ensures kept { Extends out.old.items out.new.items }
-{
-    let mut buffer = [0; BARE_NODE];
-    let start = put_location(&mut buffer, BARE_NODE, lon, lat);
-    let start = put(&mut buffer, start, b" T");
-    let start = put(&mut buffer, start, user);
-    let start = put_head(&mut buffer, start, node);
-    append_from(&buffer, start, out)
-}
-
-/// Appends a line part by part.
-fn append_parts(version: &Version, out: &mut Vec<u8>) -> Result<(), Memory>
-    ensures appended { OnOk result (out.new.items ≡ out.old.items ++ line version.now) }
-    ensures kept { Extends out.old.items out.new.items }
-{
-    append_head(version, out)?;
-    append_text(version.user(), out)?;
-    append_list(b" T", version.body().tags(), out)?;
-    append_kind_fields(version.body(), out)
 }
 
 /// Appends the bytes of `buffer` from `start` on.

@@ -27,7 +27,7 @@ pub enum Body {
 }
 
 impl Body {
-    /// The kind of the object.
+    /// The kind, which a deleted version has, too.
     pub fn kind(&self) -> Kind
         ensures { result ≡ kind_of self.now }
     {
@@ -39,7 +39,7 @@ impl Body {
         }
     }
 
-    /// Whether the object was deleted.
+    /// Whether the version is deleted. Such a body has a kind and nothing else.
     pub fn is_deleted(&self) -> bool
         ensures { result ≡ is_deleted self.now }
     {
@@ -151,7 +151,11 @@ impl Body {
         }
     }
 
-    /// An equal body.
+    /// An equal body, with copies of its lists and texts.
+    ///
+    /// # Errors
+    ///
+    /// Only out of memory.
     pub fn copy(&self) -> Result<Body, Memory>
         ensures { IfOk result (λ b. b ≡ self.now) }
     {

@@ -33,7 +33,7 @@ impl Model for History {
 }
 
 impl History {
-    /// The empty history.
+    /// The empty history. The call allocates nothing.
     pub fn new(alloc: Global) -> History
         ensures { result ≡ set.empty }
     {
@@ -66,7 +66,11 @@ impl History {
         History { versions }
     }
 
-    /// The union of the two histories. Both remain unchanged.
+    /// The union of the two histories, with copies of their versions. Both remain unchanged.
+    ///
+    /// # Errors
+    ///
+    /// Only out of memory.
     pub fn join(&self, other: &History) -> Result<History, Memory>
         ensures { IfOk result (λ h. h ≡ set.union self.now other.now) }
     {
@@ -75,21 +79,21 @@ impl History {
         Ok(History { versions })
     }
 
-    /// Whether the history holds the version.
+    /// Whether a version of the history equals `version`. The search halves the rest with each comparison.
     pub fn contains(&self, version: &Version) -> bool
         ensures { result ≡ set.contains self.now version.now }
     {
         self.versions.binary_search(version).is_ok()
     }
 
-    /// The number of versions.
+    /// The number of versions, each counted once.
     pub fn len(&self) -> usize
         ensures { result ≡ set.size self.now }
     {
         self.versions.len()
     }
 
-    /// Whether the history holds nothing.
+    /// Whether the length is 0.
     pub fn is_empty(&self) -> bool
         ensures { IsTrue result ↔ (set.size self.now ≡ 0) }
     {
@@ -112,7 +116,11 @@ impl History {
         versions
     }
 
-    /// An equal history.
+    /// An equal history, with copies of the versions.
+    ///
+    /// # Errors
+    ///
+    /// Only out of memory.
     pub fn copy(&self) -> Result<History, Memory>
         ensures { IfOk result (λ h. h ≡ self.now) }
     {

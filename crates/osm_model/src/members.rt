@@ -13,16 +13,20 @@ use std::marker::Model;
 /// A member of a relation.
 #[derive(Debug, Drop)]
 pub struct Member {
-    /// The kind of the object that is the member.
+    /// What the member is: a node, a way or a relation.
     pub kind: Kind,
-    /// The id of the object that is the member.
+    /// The id, which `Version::new` tests ([`is_id`](crate::is_id)).
     pub id: i64,
     /// The role of the object in the relation; may be empty.
     pub role: Text,
 }
 
 impl Member {
-    /// An equal member.
+    /// An equal member, with a copy of its role.
+    ///
+    /// # Errors
+    ///
+    /// Only out of memory.
     pub fn copy(&self) -> Result<Member, Memory>
         ensures { IfOk result (λ m. m ≡ self.now) }
     {
@@ -57,7 +61,7 @@ impl Members {
         Members { members }
     }
 
-    /// The vector of the members.
+    /// The vector that [`Members::from_vec`] took. It is moved, not copied.
     pub fn into_vec(self) -> Vec<Member>
         ensures { result.items ≡ self }
     {
@@ -65,7 +69,7 @@ impl Members {
         members
     }
 
-    /// The members as a slice.
+    /// The members, without a copy.
     pub fn as_slice(&self) -> &[Member]
         ensures { result.now ≡ self.now }
     {
@@ -86,7 +90,11 @@ impl Members {
         self.members.iter().all(|member| member.role.is_text())
     }
 
-    /// Equal members.
+    /// Equal members in a new vector.
+    ///
+    /// # Errors
+    ///
+    /// Only out of memory.
     pub fn copy(&self) -> Result<Members, Memory>
         ensures { IfOk result (λ m. m ≡ self.now) }
     {

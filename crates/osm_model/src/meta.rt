@@ -9,15 +9,15 @@ use crate::{Memory, Text};
 /// The metadata of a version: its number and its author. The values may be out of range: `Version::new` checks them.
 #[derive(Debug, Drop)]
 pub struct Meta {
-    /// The version number.
+    /// The version number; 1 to 4294967295 in a version.
     pub version: u64,
-    /// Seconds since 1970-01-01T00:00:00Z.
+    /// Seconds since 1970-01-01T00:00:00Z; 1 to 4294967295 in a version.
     pub time: Option<u64>,
-    /// The changeset, or 0.
+    /// The changeset; at most 4294967295 in a version, and 0 in one without a time.
     pub changeset: u64,
-    /// The user id, or 0.
+    /// The user id; at most 4294967295 in a version, and 0 in one without a time.
     pub uid: u64,
-    /// The user name, or the empty text.
+    /// The user name, which holds no U+0000 in a version and is empty in one without a time.
     pub user: Text,
 }
 
@@ -62,7 +62,11 @@ impl Meta {
         self.time.is_some() || (self.changeset == 0 && self.uid == 0 && self.user.is_empty())
     }
 
-    /// Equal metadata.
+    /// Equal metadata, with a copy of the user name.
+    ///
+    /// # Errors
+    ///
+    /// Only out of memory.
     pub fn copy(&self) -> Result<Meta, Memory>
         ensures { IfOk result (λ m. m ≡ self.now) }
     {

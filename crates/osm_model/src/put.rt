@@ -27,7 +27,6 @@ const UNITS_IN_DEGREE: u32 = 10_000_000;
 
 const SECONDS_IN_DAY: u64 = 86_400;
 
-/// Writes one byte.
 #[inline(always)]
 pub(crate) fn put_byte(buffer: &mut [u8], end: usize, byte: u8) -> usize
     requires within { end ≤ length buffer.old }
@@ -41,7 +40,6 @@ pub(crate) fn put_byte(buffer: &mut [u8], end: usize, byte: u8) -> usize
     start
 }
 
-/// Writes `bytes`.
 #[inline(always)]
 pub(crate) fn put(buffer: &mut [u8], end: usize, bytes: &[u8]) -> usize
     requires within { end ≤ length buffer.old }
@@ -197,7 +195,6 @@ fn put_padded(buffer: &mut [u8], end: usize, number: u64, width: usize) -> usize
     put_zeros(buffer, digits, width - (end - digits))
 }
 
-/// Writes `count` zeros.
 fn put_zeros(buffer: &mut [u8], end: usize, count: usize) -> usize
     requires within { end ≤ length buffer.old }
     requires fits { count ≤ end }
@@ -363,7 +360,7 @@ pub(crate) fn put_head(buffer: &mut [u8], end: usize, version: &Version) -> usiz
     put_byte(buffer, start, version.kind().letter())
 }
 
-/// Writes the fields of a location.
+/// Writes the fields of a location, which is in units of 10^-7 degree.
 #[inline(always)]
 pub(crate) fn put_location(buffer: &mut [u8], end: usize, lon: i32, lat: i32) -> usize
     requires within { end ≤ length buffer.old }

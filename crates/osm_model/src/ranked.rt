@@ -52,7 +52,7 @@ impl Model for Ranked {
 }
 
 impl Ranked {
-    /// A version with its rank.
+    /// Computes the rank of `version`.
     #[inline(always)]
     pub fn new(version: Version) -> Ranked
         ensures { result ≡ version }
@@ -63,7 +63,7 @@ impl Ranked {
         }
     }
 
-    /// The version.
+    /// The version whose rank is kept.
     #[inline(always)]
     pub fn version(&self) -> &Version
         ensures { result.now ≡ self.now }
@@ -71,7 +71,7 @@ impl Ranked {
         &self.version
     }
 
-    /// The version without its rank.
+    /// The version; its rank is dropped.
     #[inline(always)]
     pub fn into_version(self) -> Version
         ensures { result ≡ self }

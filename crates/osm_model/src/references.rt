@@ -30,7 +30,7 @@ impl References {
         References { ids }
     }
 
-    /// The vector of the references.
+    /// The vector that [`References::from_vec`] took. It is moved, not copied.
     pub fn into_vec(self) -> Vec<i64>
         ensures { result.items ≡ self }
     {
@@ -38,7 +38,7 @@ impl References {
         ids
     }
 
-    /// The references as a slice.
+    /// The references, without a copy.
     pub fn as_slice(&self) -> &[i64]
         ensures { result.now ≡ self.now }
     {
@@ -52,7 +52,11 @@ impl References {
         self.ids.iter().all(|id| is_id(*id))
     }
 
-    /// Equal references.
+    /// Equal references in a new vector.
+    ///
+    /// # Errors
+    ///
+    /// Only out of memory.
     pub fn copy(&self) -> Result<References, Memory>
         ensures { IfOk result (λ r. r ≡ self.now) }
     {

@@ -1,14 +1,13 @@
 //! Tests of equality that don't use the order.
 ghost use Rattle.std.specs.Prelude.{◌≡◌, ◌↔◌, IsTrue};
 
-/// Values that can be tested for equality.
+/// Equality of all data. It stops at the first difference, and needs no canonical line.
 pub(crate) trait Same {
-    /// Whether the two values are equal.
     fn is_same(&self, other: &Self) -> bool
         ensures { IsTrue result ↔ (self.now ≡ other.now) };
 }
 
-/// Whether two lists are equal.
+/// Whether two lists have equal items in the same order.
 pub(crate) fn are_same<T: Same>(left: &[T], right: &[T]) -> bool
     ensures { IsTrue result ↔ (left.now ≡ right.now) }
 {

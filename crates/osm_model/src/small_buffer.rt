@@ -22,7 +22,6 @@ pub(crate) struct SmallBuffer {
 impl SmallBuffer {
     ghost use Rattle.osm_model.specs.SmallBuffer.{bytes_left};
 
-    /// An empty buffer.
     pub(crate) fn new() -> SmallBuffer
         ensures { bytes_left result ≡ [] }
     {
@@ -32,7 +31,6 @@ impl SmallBuffer {
         }
     }
 
-    /// The remaining bytes.
     pub(crate) fn as_slice(&self) -> &[u8]
         ensures { result.now ≡ bytes_left self.now }
     {

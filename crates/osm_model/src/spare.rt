@@ -31,7 +31,7 @@ impl Model for Spare {
 }
 
 impl Spare {
-    /// A `Spare` without memory.
+    /// Keeps nothing yet, and allocates nothing.
     pub fn new(alloc: Global) -> Spare {
         Spare {
             version: None,
@@ -41,7 +41,7 @@ impl Spare {
         }
     }
 
-    /// Keeps a version that isn't needed any more.
+    /// Keeps a version that isn't needed any more. The version kept before is dropped.
     #[inline(always)]
     pub fn put(&mut self, mut version: Version) {
         if version.body().has_memory() {
@@ -50,7 +50,6 @@ impl Spare {
         self.version = Some(version);
     }
 
-    /// Keeps the lists of a version.
     #[inline(never)]
     fn put_lists(&mut self, version: &mut Version) {
         match version.take_body() {
@@ -67,7 +66,6 @@ impl Spare {
         }
     }
 
-    /// Takes the version out, if there is one.
     #[inline(always)]
     pub(crate) fn take_version(&mut self) -> Option<Version> {
         self.version.take()

@@ -20,7 +20,11 @@ pub struct Tag {
 }
 
 impl Tag {
-    /// An equal tag.
+    /// An equal tag, with copies of its texts.
+    ///
+    /// # Errors
+    ///
+    /// Only out of memory.
     pub fn copy(&self) -> Result<Tag, Memory>
         ensures { IfOk result (λ t. t ≡ self.now) }
     {
@@ -96,7 +100,7 @@ impl Tags {
         Tags { tags }
     }
 
-    /// The vector of the tags.
+    /// The vector of the tags in their present order. It is moved, not copied.
     pub fn into_vec(self) -> Vec<Tag>
         ensures { result.items ≡ self }
     {
@@ -104,7 +108,7 @@ impl Tags {
         tags
     }
 
-    /// The tags as a slice.
+    /// The tags in their present order, without a copy.
     pub fn as_slice(&self) -> &[Tag]
         ensures { result.now ≡ self.now }
     {
@@ -157,7 +161,11 @@ impl Tags {
             .all(|tag| tag.key.is_text() && tag.value.is_text())
     }
 
-    /// Equal tags.
+    /// Equal tags in a new vector.
+    ///
+    /// # Errors
+    ///
+    /// Only out of memory.
     pub fn copy(&self) -> Result<Tags, Memory>
         ensures { IfOk result (λ t. t ≡ self.now) }
     {

@@ -34,7 +34,6 @@ enum Storage {
 }
 
 impl Storage {
-    /// The bytes as a slice.
     #[inline(always)]
     fn as_str(&self) -> &str
         ensures bytes { result.now ≡ bytes_of self.now }
@@ -232,8 +231,7 @@ impl Text {
     /// The bytes of the text in a line, if it is known to be plain.
     #[inline(always)]
     pub(crate) fn plain(&self) -> Option<&[u8]>
-        ensures text { IfSome result (λ bytes. bytes.now ≡ escape self.now) }
-        ensures short { IfSome result (λ bytes. length bytes.now ≤ 24) }
+        ensures { IfSome result (λ bytes. bytes.now ≡ escape self.now) }
     {
         match &self.storage {
             Storage::InlineRaw(plain) => Some(plain.as_str().as_bytes()),
@@ -241,7 +239,7 @@ impl Text {
         }
     }
 
-    /// The text as a slice.
+    /// The characters, without a copy.
     #[inline(always)]
     pub fn as_str(&self) -> &str
         ensures bytes { result.now ≡ encode_utf8_all self.now }
@@ -250,7 +248,11 @@ impl Text {
         self.storage.as_str()
     }
 
-    /// An equal text.
+    /// An equal text. The copy allocates only if this text has memory of its own.
+    ///
+    /// # Errors
+    ///
+    /// Only out of memory.
     #[inline(always)]
     pub fn copy(&self) -> Result<Text, Memory>
         ensures { IfOk result (λ t. t ≡ self.now) }

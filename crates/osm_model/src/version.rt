@@ -14,7 +14,7 @@ ghost use Rattle.osm_model.specs.declared.fault.ValueFault.TheVariants as fault;
 
 use crate::id::is_id;
 use crate::same::Same;
-use crate::{Body, Kind, Memory, Meta, Spare, Text, ValueFault};
+use crate::{Body, Key, Kind, Memory, Meta, Object, Spare, Text, ValueFault};
 use std::alloc::Global;
 use std::cmp::Ordering;
 use std::marker::Model;
@@ -35,13 +35,13 @@ pub struct Version {
 /// The parts of a version. A reader fills the parts of the next version one by one, in place.
 #[derive(Debug, Drop)]
 pub struct Parts {
-    /// The id of the object.
+    /// The id; [`is_id`] is its range in a version.
     pub id: i64,
     /// The kind of the body, which comparisons read.
     kind: Kind,
-    /// The metadata.
+    /// The metadata, which may be out of range until a version is made.
     pub meta: Meta,
-    /// The body.
+    /// The body, whose tags may have any order until a version is made.
     pub body: Body,
 }
 
@@ -56,7 +56,7 @@ impl Model for Version {
     ghost invariant = { HoldsVersion };
 }
 
-/// The first fault of data, if it has one.
+/// The first fault of data, in the order of [`Version::new`].
 pub(crate) fn first_fault(id: i64, meta: &Meta, body: &Body) -> Option<ValueFault>
     ensures { result ≡ first_fault id meta.now body.now }
 {
@@ -94,7 +94,8 @@ impl Parts {
     {
         match spare.take_version() {
             Some(version) => Ok(Parts::recycle(version)),
-            None => Parts::allocate(alloc),
+            // `?` unwraps the result here, so that a caller that doesn't allocate initializes no space for it.
+            None => Ok(Parts::blank(alloc)?),
         }
     }
 
@@ -106,16 +107,6 @@ impl Parts {
         let Version { mut parts } = version;
         parts.release();
         parts
-    }
-
-    /// Parts in new memory. The function unwraps the result of `blank`, so that a caller that doesn't allocate
-    /// initializes no space for it.
-    #[inline(always)]
-    fn allocate(alloc: Global) -> Result<Box<Parts>, Memory>
-        ensures { IfOk result (λ parts. IsToFill parts.value.meta parts.value.body) }
-    {
-        let parts = Parts::blank(alloc)?;
-        Ok(parts)
     }
 
     /// Empty parts, in new memory.
@@ -156,7 +147,6 @@ impl Parts {
         mem::replace(&mut self.body, Body::Deleted(self.kind))
     }
 
-    /// Replaces the id, the metadata and the body.
     #[inline(always)]
     fn fill(&mut self, id: i64, meta: Meta, body: Body)
         ensures id { self.new.id ≡ id }
@@ -250,7 +240,7 @@ impl Version {
         self.parts.id
     }
 
-    /// The kind of the object.
+    /// The kind, also of a deleted version.
     pub fn kind(&self) -> Kind
         ensures { result ≡ kind_of self.now.body }
     {
@@ -300,34 +290,18 @@ impl Version {
         &self.parts.body
     }
 
-    /// The order of the objects: the kind, ids above 0 after the others, the absolute value of the id.
+    /// The order of the objects, [`Object::order`].
     pub fn object_cmp(&self, other: &Version) -> Ordering
         ensures { result ≡ object_cmp self.now other.now }
     {
-        let kind = self.kind().index().cmp(&other.kind().index());
-        if kind != Ordering::Equal {
-            return kind;
-        }
-        let (id, other_id) = (self.id(), other.id());
-        if id > 0 && other_id > 0 {
-            return id.cmp(&other_id);
-        }
-        let positive = (id > 0).cmp(&(other_id > 0));
-        if positive != Ordering::Equal {
-            return positive;
-        }
-        id.unsigned_abs().cmp(&other_id.unsigned_abs())
+        Object::of(self).order(&Object::of(other))
     }
 
-    /// The order of the keys: the object, then the version number.
+    /// The order of the keys, [`Key::order`].
     pub fn key_cmp(&self, other: &Version) -> Ordering
         ensures { result ≡ key_cmp self.now other.now }
     {
-        let object = self.object_cmp(other);
-        if object != Ordering::Equal {
-            return object;
-        }
-        self.number().cmp(&other.number())
+        Key::of(self).order(&Key::of(other))
     }
 
     /// Takes the body out, and leaves the body of a deleted object of its kind.
@@ -336,7 +310,11 @@ impl Version {
         self.parts.take_body()
     }
 
-    /// An equal version.
+    /// An equal version in new memory.
+    ///
+    /// # Errors
+    ///
+    /// Only out of memory.
     pub fn copy(&self) -> Result<Version, Memory>
         ensures { IfOk result (λ v. v ≡ self.now) }
     {
@@ -365,7 +343,7 @@ impl Version {
         time.then(deleted)
     }
 
-    /// The order of the bytes of the lines.
+    /// The order of the bytes of the lines. They are compared run by run, so that no whole line is made.
     #[inline(never)]
     fn line_cmp(&self, other: &Version) -> Ordering
         ensures { result ≡ slice_cmp nat_cmp (line self.now) (line other.now) }

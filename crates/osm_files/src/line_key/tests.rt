@@ -1,15 +1,14 @@
 //! Keys of single lines.
 use super::{read_key, usual_key};
 use opl_line::{LineReader, read_line};
+use osm_model::Key;
 use std::alloc::Global;
 
 /// Whether the key of `line` is that of the version of the whole line, or both readings return the same without one.
 fn has_key_of_whole_line(alloc: Global, line: &[u8]) -> bool {
     let mut reader = LineReader::new(alloc);
     match (read_key(&mut reader, line), read_line(alloc, line)) {
-        (Ok(Some(key)), Ok(Some(version))) => {
-            key.kind == version.kind() && key.id == version.id() && key.number == version.number()
-        }
+        (Ok(Some(key)), Ok(Some(version))) => key == Key::of(&version),
         (Ok(None), Ok(None)) => true,
         (Err(found), Err(reason)) => found == reason,
         _ => false,

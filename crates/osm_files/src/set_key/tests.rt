@@ -2,6 +2,7 @@
 use super::read_part;
 use crate::o5::kind_of_type;
 use o5_codec::{Decoder, read_number};
+use osm_model::Key;
 use std::alloc::Global;
 
 /// Whether the key of a data set is that of the version that the whole content spells at the start of a segment.
@@ -23,11 +24,7 @@ fn has_key_of_whole_set(alloc: Global, set: &[u8]) -> bool {
     };
     match (decoder.read_set(kind, content), part.key) {
         (Ok(version), Some(key)) => {
-            part.size == set.len() as u64
-                && part.base == version.id()
-                && key.kind == version.kind()
-                && key.id == version.id()
-                && key.number == version.number()
+            part.size == set.len() as u64 && part.base == version.id() && key == Key::of(&version)
         }
         _ => false,
     }
