@@ -1,12 +1,20 @@
-//! Laws of merges, fleets, plans and files that are split. Each is the `ensures` clause of a function with an empty
-//! body, which runs no code.
-ghost use Rattle.osm_mirror.specs.FleetLaws.{LatestMirrorsAgree, FullMirrorsAgree};
-ghost use Rattle.osm_mirror.specs.Merges.{MergesOfTheSameFiles};
-ghost use Rattle.osm_mirror.specs.PlanLaws.{OnePlan, FaultySpellsNothing};
-ghost use Rattle.osm_mirror.specs.ShardRun.{ShardRunsWriteTheRun};
-ghost use Rattle.osm_mirror.specs.Shards.{PartsHoldTheFile, ShardsWriteTheRun};
-ghost use Rattle.osm_mirror.specs.Slices.{SlicesHoldTheFile, SlicesWriteTheRun};
-ghost use Rattle.osm_mirror.specs.SortedRuns.{SortedRunsHoldTheFile, SortedRunsWriteTheFile};
+//! Laws of merges, fleets, plans, files that are split, and inputs that report their bytes. Each is the `ensures`
+//! clause of a function with an empty body, which runs no code.
+//!
+//! The contracts of the runs are about some bytes that the inputs can give. By the last five laws they are about the
+//! bytes that the inputs report beforehand.
+ghost use Rattle.osm_mirror.specs.fleet.FleetLaws.{LatestMirrorsAgree, FullMirrorsAgree};
+ghost use Rattle.osm_mirror.specs.fleet.Merges.{MergesOfTheSameFiles};
+ghost use Rattle.osm_mirror.specs.fleet.PlanLaws.{OnePlan, FaultySpellsNothing};
+ghost use Rattle.osm_mirror.specs.run.KnownInputs.{KnownIsGiven, MergesOfKnown, RunsOfKnown};
+ghost use Rattle.osm_mirror.specs.run.KnownInputs.{MergesWriteASet, RunsWriteASet};
+ghost use Rattle.osm_mirror.specs.run.KnownInputs.{RefusedMergesHaveBegun, RefusedRunsHaveBegun};
+ghost use Rattle.osm_mirror.specs.run.ShardRun.{ShardRunsWriteTheRun};
+ghost use Rattle.osm_mirror.specs.run.Shards.{PartsHoldTheFile, ShardsWriteTheRun};
+ghost use Rattle.osm_mirror.specs.run.Slices.{SlicesHoldTheFile, SlicesWriteTheRun};
+ghost use Rattle.osm_mirror.specs.run.SortedRuns.{SortedRunsHoldTheFile, SortedRunsWriteTheFile};
+
+use osm_files::{Input, Output};
 
 /// Merges of the same files write the same bytes, for any order of the files, any grouping of the merges, any formats,
 /// and any number of repetitions.
@@ -72,4 +80,34 @@ pub fn faulty_spells_nothing()
 /// The runs for all shards of an output write, in sequence, the same bytes as one run over the files.
 pub fn shard_runs_write_the_run()
     ensures { ShardRunsWriteTheRun }
+{}
+
+/// Inputs that report their bytes can give nothing else. So a property of some bytes that they can give is a property
+/// of the bytes that they report.
+pub fn known_is_given<R: Input>(inputs: &[R])
+    ensures { KnownIsGiven R.can_give inputs.now }
+{}
+
+/// The clauses `merged` and `refused` of [`run_merge`](crate::run_merge) hold of the bytes that the inputs report. If
+/// the merge succeeds, each input that reports its bytes is a sorted file.
+pub fn merges_of_known<R: Input, W: Output>(_inputs: &[R], _out: &W)
+    ensures { MergesOfKnown R.can_give W.Output }
+{}
+
+/// The clauses `written` and `refused` of [`run_selected`](crate::run_selected) hold of the bytes that the inputs
+/// report. If the run succeeds, each input that reports its bytes is a file, and sorted if it is read as `Sorted`.
+pub fn runs_of_known<R: Input, W: Output>(_inputs: &[R], _out: &W)
+    ensures { RunsOfKnown R.can_give W.Output }
+{}
+
+/// A merge that succeeds, or a run, wrote the file of a set, whatever its inputs report.
+pub fn runs_write_a_set<W: Output>(_out: &W)
+    ensures merges { MergesWriteASet W.Output }
+    ensures runs { RunsWriteASet W.Output }
+{}
+
+/// A merge that is refused, or a run, wrote a front of the file that it would have written.
+pub fn refused_runs_have_begun<W: Output>(_out: &W)
+    ensures merges { RefusedMergesHaveBegun W.Output }
+    ensures runs { RefusedRunsHaveBegun W.Output }
 {}

@@ -1,17 +1,51 @@
-//! The one run over files, which writes the selection of the union of their sets as one file.
+//! The one run over files, which writes the selection of the union of their sets as one file. Its modules are its
+//! inputs, the runs of the commands, slices and shards, and the check of a file.
 ghost use Rattle.std.specs.Prelude.{IfOk, IfErr, OnOk};
 ghost use Rattle.osm_files.specs.Output.{IsGoodThroughout};
 ghost use Rattle.osm_files.specs.Change.{change_of};
 ghost use Rattle.osm_merge.specs.Giving.{SomeInputsGive};
 ghost use Rattle.osm_merge.specs.Merged.{Grows};
-ghost use Rattle.osm_mirror.specs.Given.{FileGives};
-ghost use Rattle.osm_mirror.specs.SelectedRun.{IsRun, RefusesRun};
+ghost use Rattle.osm_mirror.specs.run.Given.{FileGives};
+ghost use Rattle.osm_mirror.specs.run.SelectedRun.{IsRun, RefusesRun};
 
-use crate::input::InputFile;
-use crate::source::open_inputs;
+mod any_order;
+mod bounds;
+mod check;
+mod cut;
+mod file_way;
+mod files_run;
+mod files_turn;
+mod input;
+mod lines_from;
+mod merge;
+mod names;
+mod probe;
+mod request;
+mod retried;
+mod shard;
+mod shard_part;
+mod shard_run;
+mod slice;
+mod source;
+mod tally;
+
+use crate::run::source::open_inputs;
+pub use any_order::{run_apply, run_period_filter, run_sort, run_time_filter};
+pub use check::{CheckReport, Checked, run_check, run_check_sorted, run_tally, run_tally_sorted};
+pub use cut::cut_offset;
+pub use files_run::{FilesRun, Order, RunFile, run_files};
+pub use input::{InputFile, ReadAs};
+pub use merge::run_merge;
+pub use names::{NamesFault, read_names};
 use osm_files::{Fault, Format, Input, Output, Sink};
 use osm_merge::{Counts, Progress, Selection, merge_selected};
+pub use request::{Command, FileEnd, FileRequest, RequestFault, read_moment};
+pub use retried::{read_retried, write_retried};
+pub use shard::Shard;
+pub use shard_run::{ShardRun, run_shard};
+pub use slice::{Slice, SliceFile, run_slice};
 use std::alloc::Global;
+pub use tally::Tally;
 
 /// Appends the one file of the format `format` that holds the selection of the versions of all inputs, each once.
 ///

@@ -1,7 +1,7 @@
 //! Runs of a plan. The mirrors take files and pass on what they hold. At the end the run writes the files of the plan.
 ghost use Rattle.std.specs.Prelude.{◌<◌, length, IfOk};
 ghost use Rattle.std.specs.List.{All};
-ghost use Rattle.osm_mirror.specs.Plan.{NamesItsMirrors};
+ghost use Rattle.osm_mirror.specs.fleet.Plan.{NamesItsMirrors};
 
 use super::files::{open, read};
 use super::part::{id_of_regular, part_name};

@@ -1,4 +1,4 @@
-use Rattle.osm_mirror.proofs.ShardLaws.{shards_write_the_run}
+use Rattle.osm_mirror.proofs.run_laws.ShardLaws.{shards_write_the_run}
 use Rattle.osm_mirror.proofs.laws.shards_write_the_run.Goals as goal
 
 pub returns : goal.returns
