@@ -177,6 +177,3 @@ fn print<'a, O: Write>(out: &mut O, text: &String) -> Result<(), Refusal<'a>> {
     let printed = out.write_all(text.as_bytes()).and_then(|()| out.flush());
     printed.map_err(|_| Refusal::StandardOutput)
 }
-
-#[cfg(test)]
-mod tests;

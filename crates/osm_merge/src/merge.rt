@@ -106,7 +106,7 @@ fn write_union<S: Source, W: Output, P: Progress>(
     requires repeats { tournament.old.repeats ≡ record { tie = None; taken = None } }
     requires compared { tournament.old.compared ≤ length tournament.old.heads.items - 1 }
     requires size { length tournament.old.heads.items ≡ length sources.old }
-    requires held { pending.old.held ≡ None }
+    requires last { pending.old.last ≡ None }
     requires read { pending.old.counts.read ≡ 0 }
     requires written { pending.old.counts.written ≡ 0 }
     requires sink { sink.old ≡ new_sink sink.old.format sink.old.number }

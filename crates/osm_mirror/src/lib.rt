@@ -13,9 +13,9 @@ pub use fleet::{
 pub use osm_merge::{Counts, NoProgress, Object, Outside, Progress, Relation, Selection, Span};
 pub use osm_model::{Kind, Memory, Version};
 pub use report::{
-    CUT, CheckedFile, CheckedJson, Content, Conversion, Escaped, EscapedBytes, EscapedOut,
-    Explanation, FaultyLine, JsonText, Quoted, REASONS, RefusedJson, RunSummary, RunTally,
-    content_of, fault_text,
+    BytesRead, CUT, CheckedFile, CheckedJson, Content, Conversion, Escaped, EscapedBytes,
+    EscapedOut, Explanation, FaultyLine, JsonText, Quoted, REASONS, RefusedJson, RunSummary,
+    RunTally, content_of, fault_text, is_report_due,
 };
 pub use run::{
     CheckReport, Checked, Command, FileEnd, FileRequest, FilesRun, InputFile, NamesFault, Order,

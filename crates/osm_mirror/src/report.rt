@@ -6,6 +6,7 @@ mod explanation;
 mod fault_line;
 mod faulty_line;
 mod foreign;
+mod reading;
 mod run_summary;
 mod shown;
 
@@ -14,5 +15,6 @@ pub use explanation::{Explanation, REASONS};
 pub use fault_line::fault_text;
 pub use faulty_line::FaultyLine;
 pub use foreign::{CUT, Content, Conversion, content_of};
+pub use reading::{BytesRead, is_report_due};
 pub use run_summary::{RunSummary, RunTally};
 pub use shown::{Escaped, EscapedBytes, EscapedOut, JsonText, Quoted};

@@ -5,7 +5,7 @@ ghost use Rattle.osm_files.specs.Output.{IsGoodThroughout};
 ghost use Rattle.osm_files.specs.Change.{change_of};
 ghost use Rattle.osm_merge.specs.Giving.{SomeInputsGive};
 ghost use Rattle.osm_merge.specs.Merged.{Grows};
-ghost use Rattle.osm_mirror.specs.run.Given.{FileGives};
+ghost use Rattle.osm_mirror.specs.run.Given.{InputFileCanGive};
 ghost use Rattle.osm_mirror.specs.run.SelectedRun.{IsRun, RefusesRun};
 
 mod any_order;
@@ -72,9 +72,9 @@ pub fn run_selected<R: Input + Drop, W: Output, P: Progress>(
     out: &mut W,
     progress: &mut P,
 ) -> Result<Counts, Fault>
-    ensures written { IfOk result (λ counts. SomeInputsGive (FileGives R.can_give) inputs.items (λ all.
+    ensures written { IfOk result (λ counts. SomeInputsGive (InputFileCanGive R.can_give) inputs.items (λ all.
         IsRun selection all format (change_of W.Output out.old out.new) counts)) }
-    ensures refused { IfErr result (λ fault. SomeInputsGive (FileGives R.can_give) inputs.items (λ all.
+    ensures refused { IfErr result (λ fault. SomeInputsGive (InputFileCanGive R.can_give) inputs.items (λ all.
         RefusesRun W.Output selection all format out.old out.new fault)) }
     ensures kept { Grows (change_of W.Output out.old out.new) }
     ensures good { OnOk result (IsGoodThroughout (change_of W.Output out.old out.new)) }

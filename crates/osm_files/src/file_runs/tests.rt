@@ -33,7 +33,10 @@ fn runs_text(alloc: Global, file: &[u8], first: Option<u64>, most: usize) -> Str
     match find_runs(alloc, &file, 3, size, first, most) {
         Ok(Some(runs)) => {
             for run in &runs {
-                let given = given_text(alloc, 0, FramedExtent::of_run(&file, size, *run));
+                let given = given_text(
+                    alloc,
+                    FileSource::new(alloc, 0, FramedExtent::of_run(&file, size, *run)),
+                );
                 let (start, lacks_header, lacks_end) = (run.start, run.lacks_header, run.lacks_end);
                 let _ = write!(text, "{start} {lacks_header} {lacks_end}\n{given}");
             }

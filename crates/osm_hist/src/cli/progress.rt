@@ -1,22 +1,13 @@
 //! Reports on standard error during a run and after it.
 use super::input::Watch;
-use osm_mirror::{Counts, Progress, Relation, RunTally, Version};
+use osm_mirror::{BytesRead, Counts, Progress, Relation, RunTally, Version, is_report_due};
 use std::cell::{Cell, RefCell};
 use std::fmt::Display;
 use std::io::{IsTerminal, Write};
 use std::time::{Clock, Duration};
 
-/// The least time between two reports on a terminal, in milliseconds.
-const INTERVAL: u128 = 500;
-
-/// The least time between two reports elsewhere, in milliseconds.
-const LINE_INTERVAL: u128 = 60_000;
-
 /// Moves a terminal to the start of its line, and clears the line.
 const CLEAR_LINE: &str = "\r\x1b[K";
-
-/// The bytes of a megabyte, MB.
-const MEGABYTE: u64 = 1_000_000;
 
 /// Reports during a run. On a terminal a report overwrites the one before, at most once in half a second. Elsewhere
 /// each report is a line, at most once a minute.
@@ -122,26 +113,18 @@ impl<'m, 'a, C: Clock, E: Write + IsTerminal> Watch for &'m Meter<'a, C, E> {
         let bytes = self.bytes.get().saturating_add(count as u64);
         self.bytes.set(bytes);
         let now = now(self.clock);
-        let (before, after, interval) = if self.is_terminal {
-            (CLEAR_LINE, "", INTERVAL)
-        } else {
-            ("", "\n", LINE_INTERVAL)
-        };
-        if now.saturating_sub(self.last.get()).as_millis() < interval {
+        let since_last = now.saturating_sub(self.last.get());
+        if !is_report_due(self.is_terminal, since_last.as_millis()) {
             return;
         }
         self.last.set(now);
-        let read = bytes / MEGABYTE;
-        let Some(size) = self.size.get() else {
-            return self.write(before, &format_args!("{read} MB"), after);
+        let (before, after) = if self.is_terminal {
+            (CLEAR_LINE, "")
+        } else {
+            ("", "\n")
         };
-        let percent = u128::from(bytes).saturating_mul(100) / u128::from(size).max(1);
-        let all = size / MEGABYTE;
-        self.write(
-            before,
-            &format_args!("{percent} %, {read} of {all} MB"),
-            after,
-        );
+        let size = self.size.get();
+        self.write(before, &BytesRead { bytes, size }, after);
     }
 
     fn failed(&self) -> &Cell<Option<usize>> {
@@ -153,6 +136,3 @@ impl<'m, 'a, C: Clock, E: Write + IsTerminal> Watch for &'m Meter<'a, C, E> {
 fn now<C: Clock>(clock: &C) -> Duration {
     clock.monotonic().unwrap_or(Duration::ZERO)
 }
-
-#[cfg(test)]
-mod tests;

@@ -17,7 +17,7 @@ use Rattle.osm_model.proofs.SetLaws.{contains-from_list, contains-listed, strict
 use Rattle.osm_model.proofs.VersionLaws.{version_cmp-IsAntisymmetric}
 use Rattle.osm_files.specs.declared.fault.Fault.{Fault}
 use Rattle.osm_files.specs.declared.sorted_run.SortedRun.{SortedRun}
-use Rattle.osm_files.specs.Extent.{GivesRun}
+use Rattle.osm_files.specs.Extent.{RunCanGive}
 use Rattle.osm_files.specs.FileRuns.{IsReadFailure}
 use Rattle.osm_files.specs.Groups.{sorted_source}
 use Rattle.osm_files.specs.Input.{InputRest}
@@ -270,13 +270,13 @@ module _ (span : Span) (Fails : Type 0) (all : List ℕ) (part : FilePart) (part
     set_is : (o : Outside) → o ≡ outside → PartSet span all part set o p.held
     set_is o e = subst (λ (x : Outside). PartSet span all part set x p.held) (sym (e ∙ outside_is)) p.is
 
-    whole_input : (c : InputRest) → GivesRun Fails (Some all) part.run part.size c → c.broken ≡ false → HoldsSorted c.bytes p.held
+    whole_input : (c : InputRest) → RunCanGive Fails (Some all) part.run part.size c → c.broken ≡ false → HoldsSorted c.bytes p.held
     whole_input c gives unbroken =
         subst (λ b. HoldsSorted b p.held) (sym (run_given Fails all part.run part.size c is.size gives unbroken)) p.holds
 
     -- what a source gives is the front of what the part holds
     given_front : (number : ℕ) (bytes : List ℕ) (broken : Bool)
-        → GivesRun Fails (Some all) part.run part.size (record { bytes = bytes; broken = broken })
+        → RunCanGive Fails (Some all) part.run part.size (record { bytes = bytes; broken = broken })
         → (rest : List VersionData)
         × (to_list p.held ≡ (sorted_source number (record { bytes = bytes; broken = broken })).list ++ rest)
     given_front number bytes true gives =
@@ -289,7 +289,7 @@ module _ (span : Span) (Fails : Type 0) (all : List ℕ) (part : FilePart) (part
     )
 
     dropped_is : (number : ℕ) (bytes : List ℕ) (broken : Bool) (found : VersionSet)
-        → GivesRun Fails (Some all) part.run part.size (record { bytes = bytes; broken = broken }) → p.held ≡ set
+        → RunCanGive Fails (Some all) part.run part.size (record { bytes = bytes; broken = broken }) → p.held ≡ set
         → IsPartRead span (sorted_source number (record { bytes = bytes; broken = broken })) found
         → found ≡ slice_of span.from span.to set
     dropped_is number bytes broken found gives whole read =
@@ -306,7 +306,7 @@ module _ (span : Span) (Fails : Type 0) (all : List ℕ) (part : FilePart) (part
         ap (λ t. (sorted_source number (record { bytes = bytes; broken = t })).list) unbroken
         ∙ ap (λ s. s.list) (source_gives_held number bytes p.held
         (whole_input (record { bytes = bytes; broken = false })
-        (subst (λ t. GivesRun Fails (Some all) part.run part.size (record { bytes = bytes; broken = t })) unbroken gives) refl)) in
+        (subst (λ t. RunCanGive Fails (Some all) part.run part.size (record { bytes = bytes; broken = t })) unbroken gives) refl)) in
         read.slice ∙ ap (λ vs. slice_of span.from span.to (from_list {R = version_cmp} vs)) list
         ∙ ap (slice_of span.from span.to) (set_listed p.held ∙ whole)))
         (λ over. read.slice ∙ front_slice span p.held (sorted_source number c).list front.0 front.1 over
@@ -315,7 +315,7 @@ module _ (span : Span) (Fails : Type 0) (all : List ℕ) (part : FilePart) (part
 
     -- the set that a run takes of the part is the slice
     pub found_is : (given : Outside × InputRest) (found : VersionSet) → given.0 ≡ outside
-        → GivesRun Fails (Some all) part.run part.size given.1 → HasSlice span given found → found ≡ slice_of span.from span.to set
+        → RunCanGive Fails (Some all) part.run part.size given.1 → HasSlice span given found → found ≡ slice_of span.from span.to set
     found_is (Refused, c) found e gives slice =
         held_is_one_set c.bytes found p.held (as_held c.bytes found slice.0.file)
         (as_held c.bytes p.held (whole_input c gives slice.0.unbroken)) ∙ set_is Refused e
@@ -327,7 +327,7 @@ module _ (span : Span) (Fails : Type 0) (all : List ℕ) (part : FilePart) (part
 
     -- the part of a good file has the slice
     pub good_is : (Fails → ⊥) → (given : Outside × InputRest) → given.0 ≡ outside
-        → GivesRun Fails (Some all) part.run part.size given.1 → GivesSlice span given (slice_of span.from span.to set)
+        → RunCanGive Fails (Some all) part.run part.size given.1 → GivesSlice span given (slice_of span.from span.to set)
     good_is never (Refused, c) e gives =
         let unbroken = unbroken_if c.broken (λ b. never (broken_fails Fails all part.run part.size c is.size gives b)) in (
           subst (λ (s : VersionSet). GivesSorted c s) (set_is Refused e)
@@ -343,7 +343,7 @@ module _ (span : Span) (Fails : Type 0) (all : List ℕ) (part : FilePart) (part
         )
 
     -- no version of the part is outside of the span
-    none_strays : (number : ℕ) (c : InputRest) → Refused ≡ outside → GivesRun Fails (Some all) part.run part.size c
+    none_strays : (number : ℕ) (c : InputRest) → Refused ≡ outside → RunCanGive Fails (Some all) part.run part.size c
         → list_any (λ v. not (is_within span.from span.to v)) (sorted_source number c).list ≡ true → ⊥
     none_strays number c e gives stray =
         let front = given_front number c.bytes c.broken gives in
@@ -358,7 +358,7 @@ module _ (span : Span) (Fails : Type 0) (all : List ℕ) (part : FilePart) (part
         (let no : None ≡ Some v = sym none ∙ e in cc)
 
   -- ---- any file
-  source_fault : (number : ℕ) (c : InputRest) (fault : Fault) → GivesRun Fails (Some all) part.run part.size c
+  source_fault : (number : ℕ) (c : InputRest) (fault : Fault) → RunCanGive Fails (Some all) part.run part.size c
       → length all ≡ part.size → (sorted_source number c).refusal ≡ Some fault
       → IsReadFailure Fails fault ⊎ ((held : VersionSet) → HoldsSorted all held → ⊥)
   source_fault number c fault gives size_is e =
@@ -366,7 +366,7 @@ module _ (span : Span) (Fails : Type 0) (all : List ℕ) (part : FilePart) (part
       (run_refuses Fails all part.run part.size number fault size_is (c, gives, inr e))
 
   part_fault : (number : ℕ) (given : Outside × InputRest) (fault : Fault) → given.0 ≡ outside
-      → GivesRun Fails (Some all) part.run part.size given.1 → length all ≡ part.size
+      → RunCanGive Fails (Some all) part.run part.size given.1 → length all ≡ part.size
       → (given_slice span number given).refusal ≡ Some fault
       → IsReadFailure Fails fault ⊎ ((held : VersionSet) → HoldsSorted all held → ⊥)
   part_fault number (Dropped, c) fault e gives size_is refused =
@@ -382,7 +382,7 @@ module _ (span : Span) (Fails : Type 0) (all : List ℕ) (part : FilePart) (part
 
   -- A refusal of the part is one of the file.
   pub fault_is : (number : ℕ) (given : Outside × InputRest) (fault : Fault) → given.0 ≡ outside
-      → GivesRun Fails (Some all) part.run part.size given.1 → (given_slice span number given).refusal ≡ Some fault
+      → RunCanGive Fails (Some all) part.run part.size given.1 → (given_slice span number given).refusal ≡ Some fault
       → IsReadFailure Fails fault ⊎ ((held : VersionSet) → HoldsSorted all held → ⊥)
   fault_is number given fault e gives refused =
       ⊎_elim (λ short. part_fault number given fault e gives (part_is short).size refused)

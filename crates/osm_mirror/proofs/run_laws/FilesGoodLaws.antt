@@ -14,7 +14,7 @@ use Rattle.osm_files.specs.declared.output.Output.{Ghosts}
 use Rattle.osm_files.specs.declared.sorted_run.SortedRun.{SortedRun}
 use Rattle.osm_files.specs.declared.reason.Reason.TheVariants.{Memory, Unsorted}
 use Rattle.osm_files.specs.Change.{change_of}
-use Rattle.osm_files.specs.Extent.{GivesRun}
+use Rattle.osm_files.specs.Extent.{RunCanGive}
 use Rattle.osm_files.specs.Fault.{fault_at, memory_fault}
 use Rattle.osm_files.specs.FileRuns.{IsAccepted, IsSortedRun}
 use Rattle.osm_files.specs.Held.{Holds, HoldsSorted}
@@ -45,7 +45,7 @@ use Rattle.osm_mirror.specs.run.FilesRefusal.{IsOutputFault}
 use Rattle.osm_mirror.specs.run.FilesRefusal.{IsFaultInWays, RefusesTurn}
 use Rattle.osm_mirror.specs.run.FilesRun.{read_as_of, HoldsAs, IsAsRequired, IsWayOf, FitsBytes, FileFits, FilesFit, OpensRun, OpensFile}
 use Rattle.osm_mirror.specs.run.FilesRun.{OpensFiles, fault_in_files}
-use Rattle.osm_mirror.specs.run.Given.{FileGives, GivesAs, GivesFile, IsFileAs, source_of, sources, IsRead}
+use Rattle.osm_mirror.specs.run.Given.{InputFileCanGive, GivesAs, GivesFile, IsFileAs, source_of, sources, IsRead}
 use Rattle.osm_mirror.specs.run.Merge.{GivesSorted}
 use Rattle.osm_mirror.specs.run.Run.{union_of}
 use Rattle.osm_mirror.specs.run.SelectedRun.{RefusesRun, IsRunRefused}
@@ -105,10 +105,10 @@ module _ {I : Type 0} (gives : I → InputRest → Type 0) (Fails : Type 0) (nev
   abbrev Opens : Order → InputFile I → SortedRun → Type 0
   Opens order = OpensRun gives Fails (Some all) size order
 
-  run_unbroken : (run : SortedRun) (c : InputRest) → GivesRun Fails (Some all) run size c → c.broken ≡ false
+  run_unbroken : (run : SortedRun) (c : InputRest) → RunCanGive Fails (Some all) run size c → c.broken ≡ false
   run_unbroken run c gave = unbroken_if c.broken (λ broken. never (broken_fails Fails all run size c long gave broken))
 
-  run_is_file : (order : Order) (run : SortedRun) (c : InputRest) (held : VersionSet) → GivesRun Fails (Some all) run size c
+  run_is_file : (order : Order) (run : SortedRun) (c : InputRest) (held : VersionSet) → RunCanGive Fails (Some all) run size c
       → HoldsAs order (run_bytes run all) held → IsFileAs (read_as_of order, c) held
   run_is_file order run c held gave h =
       let unbroken = run_unbroken run c gave in
@@ -118,7 +118,7 @@ module _ {I : Type 0} (gives : I → InputRest → Type 0) (Fails : Type 0) (nev
   -- a whole file as one input
   whole_accepted : (order : Order) (held : VersionSet) (inputs : List (InputFile I)) (given : List (ReadAs × InputRest))
       → length all < 2 ^ 64 → HoldsAs order all held → Pairwise (Opens order) inputs (whole_run ∷ [])
-      → AllGive (FileGives gives) inputs given
+      → AllGive (InputFileCanGive gives) inputs given
       → Accepted given held
   whole_accepted order held [] given short h opens g = absurd opens
   whole_accepted order held (i ∷ j ∷ inputs) given short h opens g = absurd opens.1
@@ -136,7 +136,8 @@ module _ {I : Type 0} (gives : I → InputRest → Type 0) (Fails : Type 0) (nev
     pub hold : Pairwise Holds (map (λ run. run_bytes run all) runs) sets
 
   runs_accepted : (inputs : List (InputFile I)) (runs : List SortedRun) (given : List (ReadAs × InputRest))
-      → All (IsSortedRun all) runs → Pairwise (Opens Sorted) inputs runs → AllGive (FileGives gives) inputs given → AcceptedRuns runs given
+      → All (IsSortedRun all) runs → Pairwise (Opens Sorted) inputs runs → AllGive (InputFileCanGive gives) inputs given
+      → AcceptedRuns runs given
   runs_accepted [] [] [] sorted opens g = record { sets = []; files = tt; hold = tt }
   runs_accepted [] [] (x ∷ given) sorted opens g = absurd g
   runs_accepted [] (run ∷ runs) given sorted opens g = absurd opens
@@ -160,7 +161,7 @@ module _ {F R I : Type 0} (fails : F → Type 0) (bytes : F → Option (List ℕ
   known_accepted : (Fails : Type 0) (way : FileWay) (inputs : List (InputFile I)) (given : List (ReadAs × InputRest)) (held : VersionSet)
       (all : List ℕ) → (Fails → ⊥) → HoldsAs order all held → way.may_be_split ≡ false → IsWayOf order (Some all) way
       → FitsBytes (Some all) way → Pairwise (OpensRun gives Fails (Some all) way.size way.order) inputs way.runs.items
-      → AllGive (FileGives gives) inputs given → Accepted given held
+      → AllGive (InputFileCanGive gives) inputs given → Accepted given held
   known_accepted Fails way inputs given held all never h settled (inl (whole, o, same)) (short, (long, split)) opens g =
       whole_accepted gives Fails never all way.size long order held inputs given (omega (arith, short, long)) h
       (subst (λ (x : Order). Pairwise (OpensRun gives Fails (Some all) way.size x) inputs (whole_run ∷ [])) o
@@ -181,7 +182,7 @@ module _ {F R I : Type 0} (fails : F → Type 0) (bytes : F → Option (List ℕ
   file_accepted : (file : RunFile F R) (way : FileWay) (inputs : List (InputFile I)) (given : List (ReadAs × InputRest)) (held :
       VersionSet)
       → IsGood fails bytes can order file held → way.may_be_split ≡ false → FileFits bytes order file way
-      → OpensFile fails bytes can gives file way inputs → AllGive (FileGives gives) inputs given → Accepted given held
+      → OpensFile fails bytes can gives file way inputs → AllGive (InputFileCanGive gives) inputs given → Accepted given held
   file_accepted (File f) way inputs given held (never, (all, known, h)) settled fits opens g =
       known_accepted (fails f.now) way inputs given held all never h settled
       (subst (λ (k : Option (List ℕ)). IsWayOf order k way) known fits.0)
@@ -194,7 +195,7 @@ module _ {F R I : Type 0} (fails : F → Type 0) (bytes : F → Option (List ℕ
   -- The inputs of good files are files that hold the files' sets.
   pub files_accepted : (files : List (RunFile F R)) (ways : List FileWay) (inputs : List (InputFile I)) (given : List (ReadAs × InputRest))
       (held : List VersionSet) → Pairwise (IsGood fails bytes can order) files held → AreSettled ways → FilesFit bytes order files ways
-      → OpensFiles fails bytes can gives files ways inputs → AllGive (FileGives gives) inputs given → Accepted given (union_of held)
+      → OpensFiles fails bytes can gives files ways inputs → AllGive (InputFileCanGive gives) inputs given → Accepted given (union_of held)
   files_accepted [] ways [] [] [] good settled fits opens g = record { sets = []; files = tt; union = refl }
   files_accepted [] ways [] [] (s ∷ held) good settled fits opens g = absurd good
   files_accepted [] ways [] (x ∷ given) held good settled fits opens g = absurd g
@@ -202,14 +203,15 @@ module _ {F R I : Type 0} (fails : F → Type 0) (bytes : F → Option (List ℕ
   files_accepted (file ∷ files) [] inputs given held good settled fits opens g = absurd opens
   files_accepted (file ∷ files) (way ∷ ways) inputs given [] good settled fits opens g = absurd good
   files_accepted (file ∷ files) (way ∷ ways) inputs given (s ∷ held) good settled fits (added, others, is, one, more) g =
-      let c = cut (FileGives gives) added others given
-      (as_pairs (FileGives gives) (added ++ others) given (subst (λ (xs : List (InputFile I)). AllGive (FileGives gives) xs given) is g))
+      let c = cut (InputFileCanGive gives) added others given
+      (as_pairs (InputFileCanGive gives) (added ++ others) given
+      (subst (λ (xs : List (InputFile I)). AllGive (InputFileCanGive gives) xs given) is g))
       in
       let Settled : FileWay → Type 0 = λ way. way.may_be_split ≡ false in
       let a = file_accepted file way added c.before s good.0 (All-head Settled way ways settled) fits.0 one
-      (as_given (FileGives gives) added c.before c.first) in
+      (as_given (InputFileCanGive gives) added c.before c.first) in
       let b = files_accepted files ways others c.after held good.1 (All-tail Settled way ways settled) fits.1 more
-      (as_given (FileGives gives) others c.after c.second) in
+      (as_given (InputFileCanGive gives) others c.after c.second) in
       record {
         sets = a.sets ++ b.sets;
         files = subst (λ (xs : List (ReadAs × InputRest)). Pairwise IsFileAs xs (a.sets ++ b.sets)) (sym c.joined)
@@ -273,7 +275,7 @@ module _ {F R I O : Type 0} (fails : F → Type 0) (bytes : F → Option (List �
   abbrev Moved : Fault
   Moved = fault_in_files 0 ways fault.input fault
 
-  module _ (given : List (ReadAs × InputRest)) (g : AllGive (FileGives gives) inputs given) where
+  module _ (given : List (ReadAs × InputRest)) (g : AllGive (InputFileCanGive gives) inputs given) where
     in_ways : Found fails bytes can gives run.order 0 files ways Moved → IsFaultInWays fails bytes can run.order files ways Moved
     in_ways f =
         let index : f.k ≡ Moved.input = sym (f.input_is ∙ (let same : 0 + f.k ≡ f.k = omega arith in same)) in (
@@ -342,7 +344,7 @@ module _ {F R I O : Type 0} (fails : F → Type 0) (bytes : F → Option (List �
 
   -- A refused run over the inputs of files is a refused turn.
   pub turn_refused : SortedRunsHoldTheFile
-      → SomeInputsGive (FileGives gives) inputs (λ all. RefusesRun output run.selection all run.format before after fault)
+      → SomeInputsGive (InputFileCanGive gives) inputs (λ all. RefusesRun output run.selection all run.format before after fault)
       → RefusesTurn fails bytes can output run files ways before after Moved
   turn_refused law (given, g, refused) = record {
     why = turn_why given g refused.why;

@@ -13,7 +13,7 @@ use Rattle.osm_files.specs.declared.reason.Reason.{Reason}
 use Rattle.osm_files.specs.declared.reason.Reason.TheVariants.{Memory, Opl, O5, BadHeader, Unsorted, NoEnd, AfterEnd}
 use Rattle.osm_files.specs.declared.reason.Reason.TheVariants.{TooLong, ReadFault, WriteFault, Failed}
 use Rattle.osm_files.specs.declared.sorted_run.SortedRun.{SortedRun}
-use Rattle.osm_files.specs.Extent.{GivesRun}
+use Rattle.osm_files.specs.Extent.{RunCanGive}
 use Rattle.osm_files.specs.Fault.{fault_at, memory_fault, IsOfFile}
 use Rattle.osm_files.specs.FileRuns.{IsAccepted, IsSortedRun, IsReadFailure, IsRefusalOf, IsFirstUnsorted}
 use Rattle.osm_files.specs.Groups.{sorted_source}
@@ -43,7 +43,7 @@ use Rattle.osm_mirror.specs.declared.run.input.ReadAs.TheVariants as read_as
 use Rattle.osm_mirror.specs.run.FilesRefusal.{IsFaultOfBytes, IsFaultOf, IsFaultInWay, IsFaultInWays, IsSizeFault}
 use Rattle.osm_mirror.specs.run.FilesRun.{read_as_of, IsAsRequired, IsWayOf, FitsBytes, FileFits, FilesFit, OpensRun, OpensFile, OpensFiles}
 use Rattle.osm_mirror.specs.run.FilesRun.{fault_in_run, fault_in_run_or, fault_in_files}
-use Rattle.osm_mirror.specs.run.Given.{FileGives, source_of, held_source, whole_or_refused, refusal, CannotBeRead, IsUnread, sources}
+use Rattle.osm_mirror.specs.run.Given.{InputFileCanGive, source_of, held_source, whole_or_refused, refusal, CannotBeRead, IsUnread, sources}
 use Rattle.osm_mirror.proofs.run_laws.FilesRunLaws.{cut, Cut, as_pairs, as_given}
 
 -- ---- the faults of inputs
@@ -197,7 +197,7 @@ module _ {I : Type 0} (gives : I → InputRest → Type 0) (Fails : Type 0) (ord
   InWay known = ((Fails × (r.reason ≡ ReadFault)) ⊎ IfSome known (λ all. IsFaultOfBytes order all r))
       ⊎ ((way.may_be_split ≡ true) × (r.reason ≡ Unsorted) × IfSome known (λ all. IsAccepted all → IsFirstUnsorted all r.place))
 
-  module _ (all : List ℕ) (c : InputRest) (fits : FitsBytes (Some all) way) (gave : GivesRun Fails (Some all) run way.size c) where
+  module _ (all : List ℕ) (c : InputRest) (fits : FitsBytes (Some all) way) (gave : RunCanGive Fails (Some all) run way.size c) where
     whole_there : run ≡ whole_run → r.place ≡ fault.place
     whole_there is = there ∙ ap (λ (x : SortedRun). offset_in_file x fault.place) is ∙ whole_place fault.place small
 
@@ -242,7 +242,7 @@ module _ {I : Type 0} (gives : I → InputRest → Type 0) (Fails : Type 0) (ord
         (as_sorted sorted)
 
   known_in_way : (known : Option (List ℕ)) (c : InputRest) → IsWayOf order known way × FitsBytes known way
-      → GivesRun Fails known run way.size c → (source_of m (read_as_of way.order, c)).refusal ≡ Some fault → InWay known
+      → RunCanGive Fails known run way.size c → (source_of m (read_as_of way.order, c)).refusal ≡ Some fault → InWay known
   known_in_way None c fits gave e = inl (inr tt)
   known_in_way (Some all) c fits gave e = in_way all c fits.1 gave fits.0 e
 
@@ -280,7 +280,7 @@ none_after (x ∷ xs) (suc k) low = none_after xs k (omega (arith, low))
 module _ {F R I : Type 0} (fails : F → Type 0) (bytes : F → Option (List ℕ)) (can : R → InputRest → Type 0)
     (gives : I → InputRest → Type 0) (order : Order) where
   abbrev Given : List (InputFile I) → List (ReadAs × InputRest) → Type 0
-  Given inputs given = AllGive (FileGives gives) inputs given
+  Given inputs given = AllGive (InputFileCanGive gives) inputs given
 
   runs_ordered : (known : Option (List ℕ)) (Fails : Type 0) (size : ℕ) (o : Order) (inputs : List (InputFile I)) (runs : List SortedRun)
       (given : List (ReadAs × InputRest)) → Pairwise (OpensRun gives Fails known size o) inputs runs → Given inputs given
@@ -439,10 +439,10 @@ module _ {F R I : Type 0} (fails : F → Type 0) (bytes : F → Option (List ℕ
   files_ordered [] ways (i ∷ inputs) given fits opens g = absurd (let e : i ∷ inputs ≡ [] = opens in cc)
   files_ordered (file ∷ files) [] inputs given fits opens g = absurd opens
   files_ordered (file ∷ files) (way ∷ ways) inputs given fits (added, others, is, one, more) g =
-      let c = cut (FileGives gives) added others given
-      (as_pairs (FileGives gives) (added ++ others) given (subst (λ (xs : List (InputFile I)). Given xs given) is g)) in
-      let first = file_ordered file way added c.before fits.0 one (as_given (FileGives gives) added c.before c.first) in
-      let second = files_ordered files ways others c.after fits.1 more (as_given (FileGives gives) others c.after c.second) in
+      let c = cut (InputFileCanGive gives) added others given
+      (as_pairs (InputFileCanGive gives) (added ++ others) given (subst (λ (xs : List (InputFile I)). Given xs given) is g)) in
+      let first = file_ordered file way added c.before fits.0 one (as_given (InputFileCanGive gives) added c.before c.first) in
+      let second = files_ordered files ways others c.after fits.1 more (as_given (InputFileCanGive gives) others c.after c.second) in
       subst AreOrdered (sym c.joined) (ordered_both c.before c.after first.0 second)
 
   -- The fault of an input is the fault of its file.
@@ -456,10 +456,10 @@ module _ {F R I : Type 0} (fails : F → Type 0) (bytes : F → Option (List ℕ
   fault_found [] ways (i ∷ inputs) given number n fault small fits opens g s = absurd (let e : i ∷ inputs ≡ [] = opens in cc)
   fault_found (file ∷ files) [] inputs given number n fault small fits opens g s = absurd opens
   fault_found (file ∷ files) (way ∷ ways) inputs given number n fault small fits (added, others, is, one, more) g s =
-      let c = cut (FileGives gives) added others given
-      (as_pairs (FileGives gives) (added ++ others) given (subst (λ (xs : List (InputFile I)). Given xs given) is g)) in
-      let first = as_given (FileGives gives) added c.before c.first in
-      let second = as_given (FileGives gives) others c.after c.second in
+      let c = cut (InputFileCanGive gives) added others given
+      (as_pairs (InputFileCanGive gives) (added ++ others) given (subst (λ (xs : List (InputFile I)). Given xs given) is g)) in
+      let first = as_given (InputFileCanGive gives) added c.before c.first in
+      let second = as_given (InputFileCanGive gives) others c.after c.second in
       let sized = file_ordered file way added c.before fits.0 one first in
       ⊎_elim
       (λ here. in_run number n file way files ways fault (fault_in_files (number + 1) ways (fault.input - n - length way.runs.items) fault)
@@ -501,10 +501,10 @@ module _ {F R I : Type 0} (fails : F → Type 0) (bytes : F → Option (List ℕ
   output_found [] (way ∷ ways) inputs given number k fault is fits opens g = absurd fits
   output_found (file ∷ files) [] inputs given number k fault is fits opens g = absurd opens
   output_found (file ∷ files) (way ∷ ways) inputs given number k fault is fits (added, others, same, one, more) g =
-      let c = cut (FileGives gives) added others given
-      (as_pairs (FileGives gives) (added ++ others) given (subst (λ (xs : List (InputFile I)). Given xs given) same g)) in
-      let first = as_given (FileGives gives) added c.before c.first in
-      let second = as_given (FileGives gives) others c.after c.second in
+      let c = cut (InputFileCanGive gives) added others given
+      (as_pairs (InputFileCanGive gives) (added ++ others) given (subst (λ (xs : List (InputFile I)). Given xs given) same g)) in
+      let first = as_given (InputFileCanGive gives) added c.before c.first in
+      let second = as_given (InputFileCanGive gives) others c.after c.second in
       let long = (file_ordered file way added c.before fits.0 one first).1 in
       let all : k ≡ length c.before + length c.after = is ∙ ap length c.joined ∙ length-append c.before c.after in
       let none : slice_get way.runs.items k ≡ None = none_after way.runs.items k (omega (arith, long, all)) in

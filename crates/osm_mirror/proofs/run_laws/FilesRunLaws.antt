@@ -30,7 +30,7 @@ use Rattle.osm_mirror.specs.declared.run.input.InputFile.{InputFile}
 use Rattle.osm_mirror.specs.declared.run.input.ReadAs.{ReadAs}
 use Rattle.osm_mirror.specs.run.FilesRun.{read_as_of, HoldsAs, FileHolds, IsFilesRun, IsAsRequired, IsWayOf, FitsBytes, FileFits, FilesFit}
 use Rattle.osm_mirror.specs.run.FilesRun.{OpensRun, OpensFile, OpensFiles}
-use Rattle.osm_mirror.specs.run.Given.{FileGives, GivesAs, GivesFile}
+use Rattle.osm_mirror.specs.run.Given.{InputFileCanGive, GivesAs, GivesFile}
 use Rattle.osm_mirror.specs.run.Run.{union_of}
 use Rattle.osm_mirror.specs.run.SelectedRun.{IsRun}
 use Rattle.osm_mirror.specs.run.SortedRuns.{SortedRunsHoldTheFile}
@@ -178,7 +178,7 @@ module _ {I : Type 0} (gives : I → InputRest → Type 0) (Fails : Type 0) (all
       (run_given Fails all run size_is c length_is (opens.gives_run c given) f.unbroken) (as_held order c held well)
 
   runs_hold : (inputs : List (InputFile I)) (runs : List SortedRun) (given : List (ReadAs × InputRest)) (held : List VersionSet)
-      → Pairwise Opens inputs runs → AllGive (FileGives gives) inputs given → Pairwise GivesAs given held
+      → Pairwise Opens inputs runs → AllGive (InputFileCanGive gives) inputs given → Pairwise GivesAs given held
       → Pairwise Holds (map (λ run. run_bytes run all) runs) held
   runs_hold [] [] [] [] opens g p = tt
   runs_hold [] [] [] (s ∷ held) opens g p = absurd p
@@ -194,7 +194,8 @@ module _ {I : Type 0} (gives : I → InputRest → Type 0) (Fails : Type 0) (all
 
   -- a whole file as one input
   whole_holds : (inputs : List (InputFile I)) (run : SortedRun) (given : List (ReadAs × InputRest)) (held : List VersionSet)
-      → run_bytes run all ≡ all → Pairwise Opens inputs (run ∷ []) → AllGive (FileGives gives) inputs given → Pairwise GivesAs given held
+      → run_bytes run all ≡ all → Pairwise Opens inputs (run ∷ []) → AllGive (InputFileCanGive gives) inputs given
+      → Pairwise GivesAs given held
       → HoldsAs order all (union_of held)
   whole_holds [] run given held whole opens g p = absurd opens
   whole_holds (f ∷ h ∷ inputs) run given held whole opens g p = absurd opens.1
@@ -208,7 +209,8 @@ module _ {I : Type 0} (gives : I → InputRest → Type 0) (Fails : Type 0) (all
 
 -- ---- the inputs of a file
 module _ {I : Type 0} (gives : I → InputRest → Type 0) (Fails : Type 0) (way : FileWay) (order : Order) (law : SortedRunsHoldTheFile)
-    (inputs : List (InputFile I)) (given : List (ReadAs × InputRest)) (held : List VersionSet) (g : AllGive (FileGives gives) inputs given)
+    (inputs : List (InputFile I)) (given : List (ReadAs × InputRest)) (held : List VersionSet) (g : AllGive (InputFileCanGive gives) inputs
+    given)
     (p : Pairwise GivesAs given held) where
   abbrev Opened : Option (List ℕ) → Type 0
   Opened known = Pairwise (OpensRun gives Fails known way.size way.order) inputs way.runs.items
@@ -240,7 +242,7 @@ module _ {F R I : Type 0} (fails : F → Type 0) (bytes : F → Option (List ℕ
     (gives : I → InputRest → Type 0) (order : Order) where
   -- A stream as one input.
   stream_holds : (r : R) (way : FileWay) (inputs : List (InputFile I)) (given : List (ReadAs × InputRest)) (held : List VersionSet)
-      → IsAsRequired order way → OpensFile fails bytes can gives (Stream r) way inputs → AllGive (FileGives gives) inputs given
+      → IsAsRequired order way → OpensFile fails bytes can gives (Stream r) way inputs → AllGive (InputFileCanGive gives) inputs given
       → Pairwise GivesAs given held → FileHolds bytes can order (Stream r) (union_of held)
   stream_holds r way [] given held fits (input, is, opens) g p = absurd (let e : [] ≡ input ∷ [] = is in cc)
   stream_holds r way (x ∷ y ∷ inputs) given held fits (input, is, opens) g p =
@@ -261,7 +263,7 @@ module _ {F R I : Type 0} (fails : F → Type 0) (bytes : F → Option (List ℕ
 
   one_holds : SortedRunsHoldTheFile → (file : RunFile F R) (way : FileWay) (inputs : List (InputFile I))
       (given : List (ReadAs × InputRest)) (held : List VersionSet) → FileFits bytes order file way
-      → OpensFile fails bytes can gives file way inputs → AllGive (FileGives gives) inputs given → Pairwise GivesAs given held
+      → OpensFile fails bytes can gives file way inputs → AllGive (InputFileCanGive gives) inputs given → Pairwise GivesAs given held
       → FileHolds bytes can order file (union_of held)
   one_holds law (File f) way inputs given held fits opens g p =
       known_holds gives (fails f.now) way order law inputs given held g p (bytes f.now) fits opens
@@ -270,7 +272,7 @@ module _ {F R I : Type 0} (fails : F → Type 0) (bytes : F → Option (List ℕ
   -- If a run over the inputs of files accepts them, the files hold sets, and the union of these is that of the inputs' sets.
   pub files_hold : SortedRunsHoldTheFile → (files : List (RunFile F R)) (ways : List FileWay) (inputs : List (InputFile I))
       (given : List (ReadAs × InputRest)) (held : List VersionSet) → FilesFit bytes order files ways
-      → OpensFiles fails bytes can gives files ways inputs → AllGive (FileGives gives) inputs given → Pairwise GivesAs given held
+      → OpensFiles fails bytes can gives files ways inputs → AllGive (InputFileCanGive gives) inputs given → Pairwise GivesAs given held
       → (sets : List VersionSet) × Pairwise (FileHolds bytes can order) files sets × (union_of held ≡ union_of sets)
   files_hold law [] ways [] [] [] fits opens g p = ([], tt, refl)
   files_hold law [] ways [] [] (s ∷ held) fits opens g p = absurd p
@@ -278,12 +280,14 @@ module _ {F R I : Type 0} (fails : F → Type 0) (bytes : F → Option (List ℕ
   files_hold law [] ways (i ∷ inputs) given held fits opens g p = absurd (let e : i ∷ inputs ≡ [] = opens in cc)
   files_hold law (file ∷ files) [] inputs given held fits opens g p = absurd opens
   files_hold law (file ∷ files) (way ∷ ways) inputs given held fits (added, others, is, one, more) g p =
-      let c = cut (FileGives gives) added others given
-      (as_pairs (FileGives gives) (added ++ others) given (subst (λ (xs : List (InputFile I)). AllGive (FileGives gives) xs given) is g))
+      let c = cut (InputFileCanGive gives) added others given
+      (as_pairs (InputFileCanGive gives) (added ++ others) given
+      (subst (λ (xs : List (InputFile I)). AllGive (InputFileCanGive gives) xs given) is g))
       in
       let d = cut GivesAs c.before c.after held (subst (λ xs. Pairwise GivesAs xs held) c.joined p) in
-      let e = one_holds law file way added c.before d.before fits.0 one (as_given (FileGives gives) added c.before c.first) d.first in
-      let f = files_hold law files ways others c.after d.after fits.1 more (as_given (FileGives gives) others c.after c.second)
+      let e = one_holds law file way added c.before d.before fits.0 one (as_given (InputFileCanGive gives) added c.before c.first) d.first
+      in
+      let f = files_hold law files ways others c.after d.after fits.1 more (as_given (InputFileCanGive gives) others c.after c.second)
       d.second in (
         union_of d.before ∷ f.0,
         (e, f.1),
@@ -316,7 +320,7 @@ module _ {F R I : Type 0} (fails : F → Type 0) (bytes : F → Option (List ℕ
   pub run_is : SortedRunsHoldTheFile → (run : FilesRun) (files : List (RunFile F R)) (ways : List FileWay) (inputs : List (InputFile I))
       → run.order ≡ order → FilesFit bytes order files ways → OpensFiles fails bytes can gives files ways inputs
       → (change : Change) (counts : Counts)
-      → SomeInputsGive (FileGives gives) inputs (λ all. IsRun run.selection all run.format change counts)
+      → SomeInputsGive (InputFileCanGive gives) inputs (λ all. IsRun run.selection all run.format change counts)
       → IsFilesRun bytes can run files change counts
   run_is law run files ways inputs order_is fits opens change counts (given, g, done) =
       let h = files_hold law files ways inputs given done.held fits opens g done.files in

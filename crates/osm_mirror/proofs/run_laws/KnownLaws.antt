@@ -16,7 +16,7 @@ use Rattle.osm_merge.specs.Merged.{WritesSet, HasBegunIn}
 use Rattle.osm_merge.specs.Selected.{selection_of}
 use Rattle.osm_merge.specs.Union.{union_given}
 use Rattle.osm_merge.proofs.UnionLaws.{begun_refused, nothing_appended}
-use Rattle.osm_mirror.specs.run.Given.{FileGives, GivesAs, sources}
+use Rattle.osm_mirror.specs.run.Given.{InputFileCanGive, GivesAs, sources}
 use Rattle.osm_mirror.specs.run.Merge as merge
 use Rattle.osm_mirror.specs.run.Run.{union_of, IsRunBy}
 use Rattle.osm_mirror.specs.run.SelectedRun.{IsRun, RefusesRun}
@@ -56,9 +56,9 @@ merges_known can output inputs format before after = record {
 
 pub runs_known : {R O : Type 0} (can : R → InputRest → Type 0) (output : Ghosts O) → RunsOfKnown can output
 runs_known can output selection inputs format before after = record {
-  done = λ counts. holds_of_known (FileGives can) inputs (λ all. IsRun selection all format (change_of output before after) counts);
-  refused = λ fault. holds_of_known (FileGives can) inputs (λ all. RefusesRun output selection all format before after fault);
-  files = λ counts h. each_known (FileGives can) GivesAs inputs h.0 h.2.held h.1 h.2.files;
+  done = λ counts. holds_of_known (InputFileCanGive can) inputs (λ all. IsRun selection all format (change_of output before after) counts);
+  refused = λ fault. holds_of_known (InputFileCanGive can) inputs (λ all. RefusesRun output selection all format before after fault);
+  files = λ counts h. each_known (InputFileCanGive can) GivesAs inputs h.0 h.2.held h.1 h.2.files;
 }
 
 -- A run that is done wrote the file of a set.

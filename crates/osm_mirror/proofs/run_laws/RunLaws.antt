@@ -36,12 +36,13 @@ use Rattle.osm_mirror.specs.declared.run.slice.Slice.{Slice}
 use Rattle.osm_mirror.specs.declared.run.slice.SliceFile.{SliceFile}
 use Rattle.osm_mirror.specs.declared.run.source.RunSource.{RunSource}
 use Rattle.osm_mirror.specs.run.Command.{IsWritten, IsNotWritten}
-use Rattle.osm_mirror.specs.run.Given.{GivesFile, GivesAs, IsFileAs, source_of, sources, FileGives, file_as, file_within, IsRead, AreOpened}
+use Rattle.osm_mirror.specs.run.Given.{GivesFile, GivesAs, IsFileAs, source_of, sources, InputFileCanGive, file_as, file_within, IsRead}
+use Rattle.osm_mirror.specs.run.Given.{AreOpened}
 use Rattle.osm_mirror.specs.run.Given.{CannotBeRead, IsUnread, IsUnopened}
 use Rattle.osm_mirror.specs.run.Merge as merge
 use Rattle.osm_mirror.specs.run.Run.{union_of, sources_by, IsBoundedFor, IsRunBy, IsCutShort, RefusesRunBy}
 use Rattle.osm_mirror.specs.run.SelectedRun.{IsRun, IsRunRefused, RefusesRun}
-use Rattle.osm_mirror.specs.run.SliceRun.{SliceGives, IsSliceRun, RefusesSlice}
+use Rattle.osm_mirror.specs.run.SliceRun.{SliceFileCanGive, IsSliceRun, RefusesSlice}
 use Rattle.osm_mirror.specs.run.SourceRest.{SourceCanGive}
 use Rattle.osm_mirror.proofs.run_laws.SourceLaws.{members, union_given_is, cut_at_once, all_give, sizes, so_many, as_all_given, not_unread}
 use Rattle.osm_mirror.proofs.run_laws.SourceLaws.{opened_give}
@@ -86,8 +87,8 @@ module _ {O : Type 0} (output : Ghosts O) (selection : Selection) (format : Form
 module _ {R : Type 0} (can : R → InputRest → Type 0) {O : Type 0} (output : Ghosts O) (selection : Selection) (format : Format)
     (files : List (InputFile R)) where
   -- no source was opened
-  pub unopened : (before : O) (fault : Fault) → SomeInputsGive (FileGives can) files (λ all. IsUnopened 0 all fault)
-      → SomeInputsGive (FileGives can) files (λ all. RefusesRun output selection all format before before fault)
+  pub unopened : (before : O) (fault : Fault) → SomeInputsGive (InputFileCanGive can) files (λ all. IsUnopened 0 all fault)
+      → SomeInputsGive (InputFileCanGive can) files (λ all. RefusesRun output selection all format before before fault)
   unopened before fault h = (
     h.0,
     h.1,
@@ -103,7 +104,7 @@ module _ {R : Type 0} (can : R → InputRest → Type 0) {O : Type 0} (output : 
     pub ran_written : (result : Result Counts Fault)
         → IfOk result (λ counts. SomeInputsGive (SourceCanGive can) opened
         (λ all. merged.IsMergedAs selection all given (change_of output before after) counts))
-        → IfOk result (λ counts. SomeInputsGive (FileGives can) files
+        → IfOk result (λ counts. SomeInputsGive (InputFileCanGive can) files
         (λ all. IsRun selection all format (change_of output before after) counts))
     ran_written (Ok counts) h =
         let q = opened_give can 0 files opened h.0 are h.1 in
@@ -121,14 +122,15 @@ module _ {R : Type 0} (can : R → InputRest → Type 0) {O : Type 0} (output : 
     pub ran_refused : (number : ℕ) → number ≡ length files → (result : Result Counts Fault)
         → IfErr result (λ fault. SomeInputsGive (SourceCanGive can) opened
         (λ all. merged.IsRefusedAs selection all given number (change_of output before after) fault))
-        → IfErr result (λ fault. SomeInputsGive (FileGives can) files (λ all. RefusesRun output selection all format before after fault))
+        → IfErr result (λ fault. SomeInputsGive (InputFileCanGive can) files
+        (λ all. RefusesRun output selection all format before after fault))
     ran_refused number many (Ok counts) h = tt
     ran_refused number many (Err fault) h =
         let q = opened_give can 0 files opened h.0 are h.1 in
         let m =
         subst (λ (all : List source.VersionsToCome). merged.IsRefusedAs selection all given number (change_of output before after)
         fault) q.2 h.2 in
-        let count : number ≡ length q.0 = many ∙ sym (give_size (FileGives can) files q.0 q.1) in
+        let count : number ≡ length q.0 = many ∙ sym (give_size (InputFileCanGive can) files q.0 q.1) in
         let why = subst (λ (n : ℕ). merged.IsRefusedAs selection (sources 0 q.0) format n (change_of output before after) fault) count
         (subst (λ (f : Format). merged.IsRefusedAs selection (sources 0 q.0) f number (change_of output before after) fault) same m) in
         (q.0, q.1, refuses output selection format before after q.0 fault (inr (inr (q.3, why))))
@@ -210,8 +212,8 @@ module _ {I : Type 0} (as_file : I → ReadAs × InputRest) where
 -- The files of a run, which are read for these items: what the files can give, the items can give.
 module _ {R X I : Type 0} (can : R → InputRest → Type 0) (file : X → InputFile R) (gives : X → I → Type 0)
     (as_file : I → ReadAs × InputRest)
-    (back : (x : X) (input : ReadAs × InputRest) → FileGives can (file x) input → (c : I) × gives x c × (input ≡ as_file c)) where
-  mapped_give : (items : List X) (all : List (ReadAs × InputRest)) → AllGive (FileGives can) (map file items) all →
+    (back : (x : X) (input : ReadAs × InputRest) → InputFileCanGive can (file x) input → (c : I) × gives x c × (input ≡ as_file c)) where
+  mapped_give : (items : List X) (all : List (ReadAs × InputRest)) → AllGive (InputFileCanGive can) (map file items) all →
       (given : List I) × AllGive gives items given × (all ≡ map as_file given)
   mapped_give [] [] g = ([], tt, refl)
   mapped_give [] (c ∷ all) g = absurd g
@@ -222,24 +224,24 @@ module _ {R X I : Type 0} (can : R → InputRest → Type 0) (file : X → Input
       (one.0 ∷ others.0, (one.1, others.1), (λ i. one.2 i ∷ others.2 i))
 
   some_mapped : (items : List X) (files : List (InputFile R)) → files ≡ map file items → (P : List (ReadAs × InputRest) → Type 0) →
-      SomeInputsGive (FileGives can) files P → SomeInputsGive gives items (λ given. P (map as_file given))
+      SomeInputsGive (InputFileCanGive can) files P → SomeInputsGive gives items (λ given. P (map as_file given))
   some_mapped items files are P h =
-      let q = mapped_give items h.0 (subst (λ (fs : List (InputFile R)). AllGive (FileGives can) fs h.0) are h.1) in
+      let q = mapped_give items h.0 (subst (λ (fs : List (InputFile R)). AllGive (InputFileCanGive can) fs h.0) are h.1) in
       (q.0, q.1, subst P q.2 h.2)
 
 -- the files of readers that are all read in the way `how`
 of_readers : {R : Type 0} (can : R → InputRest → Type 0) (how : ReadAs) (readers : List R) (files : List (InputFile R)) →
-    files ≡ map (file_as how) readers → (P : List (ReadAs × InputRest) → Type 0) → SomeInputsGive (FileGives can) files P →
+    files ≡ map (file_as how) readers → (P : List (ReadAs × InputRest) → Type 0) → SomeInputsGive (InputFileCanGive can) files P →
     SomeInputsGive can readers (λ given. P (map (λ c. (how, c)) given))
 of_readers can how =
     some_mapped can (file_as how) can (λ c. (how, c)) (λ reader input h. (input.1, h.1, (λ i. (sym h.0 i, input.1))))
 
 -- the files of which slices are read
 of_slices : {R : Type 0} (can : R → InputRest → Type 0) (span : Span) (items : List (SliceFile R)) (files : List (InputFile R)) →
-    files ≡ map (file_within span) items → (P : List (ReadAs × InputRest) → Type 0) → SomeInputsGive (FileGives can) files P →
-    SomeInputsGive (SliceGives can) items (λ given. P (map (λ c. (Within span c.0, c.1)) given))
+    files ≡ map (file_within span) items → (P : List (ReadAs × InputRest) → Type 0) → SomeInputsGive (InputFileCanGive can) files P →
+    SomeInputsGive (SliceFileCanGive can) items (λ given. P (map (λ c. (Within span c.0, c.1)) given))
 of_slices can span =
-    some_mapped can (file_within span) (SliceGives can) (λ c. (Within span c.0, c.1))
+    some_mapped can (file_within span) (SliceFileCanGive can) (λ c. (Within span c.0, c.1))
     (λ item input h. ((item.outside, input.1), (refl, h.1), (λ i. (sym h.0 i, input.1))))
 
 -- the sets of the files that were read to their ends
@@ -287,7 +289,7 @@ module _ {O : Type 0} (output : Ghosts O) (format : Format) (before after : O) w
   module _ {R : Type 0} (can : R → InputRest → Type 0) (readers : List R) (files : List (InputFile R)) where
     -- A run over files that are all sorted is a merge of their readers.
     pub merge_done : files ≡ map (file_as Sorted) readers → (counts : Counts) →
-        SomeInputsGive (FileGives can) files (λ all. IsRun selection.All all format (change_of output before after) counts) →
+        SomeInputsGive (InputFileCanGive can) files (λ all. IsRun selection.All all format (change_of output before after) counts) →
         SomeInputsGive can readers (λ all. merge.IsMerged all format (change_of output before after) counts)
     merge_done are counts h =
         let q = of_readers can Sorted readers files are
@@ -298,7 +300,7 @@ module _ {O : Type 0} (output : Ghosts O) (format : Format) (before after : O) w
         )
 
     pub merge_stops : files ≡ map (file_as Sorted) readers → (fault : Fault) →
-        SomeInputsGive (FileGives can) files (λ all. RefusesRun output selection.All all format before after fault) →
+        SomeInputsGive (InputFileCanGive can) files (λ all. RefusesRun output selection.All all format before after fault) →
         SomeInputsGive can readers (λ all. merge.Refuses all format (change_of output before after) fault)
     merge_stops are fault h =
         let q = of_readers can Sorted readers files are (λ all. RefusesRun output selection.All all format before after fault) h in
@@ -306,7 +308,7 @@ module _ {O : Type 0} (output : Ghosts O) (format : Format) (before after : O) w
 
     -- A run over files that may all have any order is a command over their readers.
     pub command_done : (selection : Selection) → files ≡ map (file_as Any) readers → (counts : Counts) →
-        SomeInputsGive (FileGives can) files (λ all. IsRun selection all format (change_of output before after) counts) →
+        SomeInputsGive (InputFileCanGive can) files (λ all. IsRun selection all format (change_of output before after) counts) →
         SomeInputsGive can readers (λ all. IsWritten (selection_of selection) all format (change_of output before after)
         (record { read = counts.read; written = counts.written; compared = 0 }))
     command_done selection are counts h =
@@ -326,7 +328,7 @@ module _ {O : Type 0} (output : Ghosts O) (format : Format) (before after : O) w
         )
 
     pub command_stops : (selection : Selection) → files ≡ map (file_as Any) readers → (fault : Fault) →
-        SomeInputsGive (FileGives can) files (λ all. RefusesRun output selection all format before after fault) →
+        SomeInputsGive (InputFileCanGive can) files (λ all. RefusesRun output selection all format before after fault) →
         SomeInputsGive can readers (λ all. IsNotWritten output (selection_of selection) all format before after fault)
     command_stops selection are fault h =
         let q = of_readers can Any readers files are (λ all. RefusesRun output selection all format before after fault) h in
@@ -336,8 +338,8 @@ module _ {O : Type 0} (output : Ghosts O) (format : Format) (before after : O) w
       (are : files ≡ map (file_within slice.span) items) where
     -- A run over files within a span is a run for a slice.
     pub slice_done : (counts : Counts) →
-        SomeInputsGive (FileGives can) files (λ all. IsRun slice.selection all format (change_of output before after) counts) →
-        SomeInputsGive (SliceGives can) items (λ all. IsSliceRun slice all format (change_of output before after) counts)
+        SomeInputsGive (InputFileCanGive can) files (λ all. IsRun slice.selection all format (change_of output before after) counts) →
+        SomeInputsGive (SliceFileCanGive can) items (λ all. IsSliceRun slice all format (change_of output before after) counts)
     slice_done counts h =
         let q = of_slices can slice.span items files are
         (λ all. IsRun slice.selection all format (change_of output before after) counts) h in (
@@ -348,8 +350,8 @@ module _ {O : Type 0} (output : Ghosts O) (format : Format) (before after : O) w
         )
 
     pub slice_stops : (fault : Fault) →
-        SomeInputsGive (FileGives can) files (λ all. RefusesRun output slice.selection all format before after fault) →
-        SomeInputsGive (SliceGives can) items (λ all. RefusesSlice slice all format (change_of output before after) fault)
+        SomeInputsGive (InputFileCanGive can) files (λ all. RefusesRun output slice.selection all format before after fault) →
+        SomeInputsGive (SliceFileCanGive can) items (λ all. RefusesSlice slice all format (change_of output before after) fault)
     slice_stops fault h =
         let q = of_slices can slice.span items files are
         (λ all. RefusesRun output slice.selection all format before after fault) h in
@@ -377,11 +379,11 @@ module _ {R : Type 0} (can : R → InputRest → Type 0) (one : R → InputRest)
 
   -- A run for a slice that runs out of memory before it reads wrote nothing.
   pub slice_at_once : (slice : Slice) (items : List (SliceFile R)) →
-      SomeInputsGive (SliceGives can) items (λ all. RefusesSlice slice all format (change_of output before before) fault)
+      SomeInputsGive (SliceFileCanGive can) items (λ all. RefusesSlice slice all format (change_of output before before) fault)
   slice_at_once slice items =
       let all = map (λ item. (item.outside, one item.reader)) items in (
         all,
-        give_one (SliceGives can) (λ item. (item.outside, one item.reader)) (λ item. (refl, possible item.reader)) items,
+        give_one (SliceFileCanGive can) (λ item. (item.outside, one item.reader)) (λ item. (refl, possible item.reader)) items,
         slice_refuses output format before before slice all fault
             (at_once slice.selection (map (λ c. (Within slice.span c.0, c.1)) all)),
       )

@@ -12,7 +12,7 @@ use Rattle.osm_model.specs.declared.kind.Kind.TheVariants.{Node}
 use Rattle.osm_files.specs.declared.fault.Fault.{Fault}
 use Rattle.osm_files.specs.declared.format.Format.TheVariants.{Opl}
 use Rattle.osm_files.specs.declared.reason.Reason.TheVariants.{Memory}
-use Rattle.osm_files.specs.Extent.{GivesRun}
+use Rattle.osm_files.specs.Extent.{RunCanGive}
 use Rattle.osm_files.specs.Fault.{memory_fault, fault_at}
 use Rattle.osm_files.specs.Held.{HoldsSorted}
 use Rattle.osm_files.specs.Input.{InputRest}
@@ -131,7 +131,7 @@ shard_is run all held span is change counts done = record {
 -- ---- the first fault of a file
 -- a run over a whole file whose source is refused
 whole_fault : (Fails : Type 0) (known : Option (List ℕ)) (size : ℕ) (c : InputRest) (first : Fault) (r : Fault)
-    → size < 2 ^ 64 → IfSome known (λ all. size ≡ length all) → GivesRun Fails known whole_run size c → StopsOpening 0 c first
+    → size < 2 ^ 64 → IfSome known (λ all. size ≡ length all) → RunCanGive Fails known whole_run size c → StopsOpening 0 c first
     → r.place ≡ first.place → r.reason ≡ first.reason → (first.reason ≡ Memory → ⊥) → IsFaultOfFile Fails known r
 whole_fault Fails None size c first r small sized gives stops there same other = inr tt
 whole_fault Fails (Some all) size c first r small sized gives stops there same other =
@@ -141,7 +141,7 @@ whole_fault Fails (Some all) size c first r small sized gives stops there same o
 
 -- a whole file whose source is refused has its refusal as its first fault
 pub first_is : (Fails : Type 0) (known : Option (List ℕ)) (size : ℕ) (c : InputRest) (first fault : Fault) → size < 2 ^ 64
-    → IfSome known (λ all. size ≡ length all) → GivesRun Fails known whole_run size c → StopsOpening 0 c first
+    → IfSome known (λ all. size ≡ length all) → RunCanGive Fails known whole_run size c → StopsOpening 0 c first
     → IsFirstFault Fails known fault (fault_at fault.input first.place first.reason)
 first_is Fails known size c first fault small sized gives stops =
     ⊎_elim (λ memory. inl memory)
@@ -154,7 +154,7 @@ first_is Fails known size c first fault small sized gives stops =
 
 -- a whole file that is accepted is sorted
 pub whole_sorted : (Fails : Type 0) (known : Option (List ℕ)) (size : ℕ) (c : InputRest) (report : CheckReport) → size < 2 ^ 64
-    → IfSome known (λ all. size ≡ length all) → GivesRun Fails known whole_run size c → Reports c report → report.sorted ≡ true
+    → IfSome known (λ all. size ≡ length all) → RunCanGive Fails known whole_run size c → Reports c report → report.sorted ≡ true
     → IfSome known (λ all. (held : VersionSet) × HoldsSorted all held)
 whole_sorted Fails None size c report small sized gives reports is = tt
 whole_sorted Fails (Some all) size c report small sized gives reports is = (

@@ -63,8 +63,9 @@ use Rattle.osm_mirror.specs.run.Run.{union_of}
 use Rattle.osm_mirror.specs.run.Merge.{GivesSorted}
 use Rattle.osm_mirror.specs.run.SliceRun.{HasSlice, IsPartRead, given_slice}
 use Rattle.osm_mirror.specs.run.SourceRest.{SourceCanGive, source_one, source_possible}
-use Rattle.osm_mirror.specs.run.Given.{GivesFile, GivesAs, IsFileAs, refusal, whole_or_refused, held_source, source_of, sources, FileGives}
-use Rattle.osm_mirror.specs.run.Given.{FileGivesOne, file_as, one_of_file, IsRead, IsOpened, AreOpened, CannotBeRead, IsUnread, IsUnopened}
+use Rattle.osm_mirror.specs.run.Given.{GivesFile, GivesAs, IsFileAs, refusal, whole_or_refused, held_source, source_of, sources}
+use Rattle.osm_mirror.specs.run.Given.{InputFileCanGive}
+use Rattle.osm_mirror.specs.run.Given.{file_as, one_of_file, IsRead, IsOpened, AreOpened, CannotBeRead, IsUnread, IsUnopened}
 
 -- ---- the union
 abbrev among : VersionData → List VersionData → Bool
@@ -402,7 +403,7 @@ load_opens can number reader loaded set is h still e =
 -- A file that isn't loaded isn't opened.
 pub load_stops : {R : Type 0} (can : R → InputRest → Type 0) (number : ℕ) (reader : R) (fault : Fault)
     → GivesOne (can reader) (λ c. StopsLoading number c fault)
-    → FileGivesOne can (file_as Any reader) (λ input. IsUnopened number (input ∷ []) fault)
+    → GivesOne (InputFileCanGive can (file_as Any reader)) (λ input. IsUnopened number (input ∷ []) fault)
 load_stops can number reader fault h = ((Any, h.0), (refl, h.1), ⊎_elim (λ e. inl e) (λ e. inr (inl e)) h.2)
 
 module _ {R : Type 0} (can : R → InputRest → Type 0) where
@@ -430,7 +431,7 @@ module _ {R : Type 0} (can : R → InputRest → Type 0) where
   -- for all that the sources can give, the files could give bytes whose sources give the same
   pub opened_give : (number : ℕ) (files : List (InputFile R)) (opened : List (RunSource R)) (stills : List source.VersionsToCome)
       → AreOpened can number files opened → AllGive (SourceCanGive can) opened stills
-      → (all : List (ReadAs × InputRest)) × AllGive (FileGives can) files all × (stills ≡ sources number all) × All IsRead all
+      → (all : List (ReadAs × InputRest)) × AllGive (InputFileCanGive can) files all × (stills ≡ sources number all) × All IsRead all
   opened_give number [] [] [] all g = ([], tt, refl, All-nil IsRead)
   opened_give number [] [] (s ∷ stills) all g = absurd g
   opened_give number [] (t ∷ opened) stills all g = absurd all
@@ -442,14 +443,15 @@ module _ {R : Type 0} (can : R → InputRest → Type 0) where
       (one.0 ∷ others.0, (one.1, others.1), (λ i. one.2.0 i ∷ others.2 i), All-cons IsRead one.0 others.0 one.2.1 others.3)
 
   module _ (one : R → InputRest) (possible : (r : R) → can r (one r)) where
-    give_files : (files : List (InputFile R)) → AllGive (FileGives can) files (map (one_of_file one) files)
-    give_files = give_one (FileGives can) (one_of_file one) (λ f. (refl, possible f.reader))
+    give_files : (files : List (InputFile R)) → AllGive (InputFileCanGive can) files (map (one_of_file one) files)
+    give_files = give_one (InputFileCanGive can) (one_of_file one) (λ f. (refl, possible f.reader))
 
     -- a file that can't be opened, after files that were opened
     pub stops_after : (number : ℕ) (files : List (InputFile R)) (opened : List (RunSource R)) (file : InputFile R)
         (rest : List (InputFile R)) (fault : Fault)
-        → AreOpened can number files opened → FileGivesOne can file (λ input. IsUnopened (number + length files) (input ∷ []) fault)
-        → SomeInputsGive (FileGives can) (files ++ file ∷ rest) (λ all. IsUnopened number all fault)
+        → AreOpened can number files opened → GivesOne (InputFileCanGive can file) (λ input. IsUnopened (number + length files) (input ∷ [])
+        fault)
+        → SomeInputsGive (InputFileCanGive can) (files ++ file ∷ rest) (λ all. IsUnopened number all fault)
     stops_after number [] [] file rest fault all h =
         let why = subst (λ (n : ℕ). IsUnopened n (h.0 ∷ []) fault) (let e : number + 0 ≡ number = omega arith in e) h.2 in
         (h.0 ∷ map (one_of_file one) rest, (h.1, give_files rest), unread_first number h.0 (map (one_of_file one) rest) fault why)
@@ -470,7 +472,8 @@ module _ {R : Type 0} (can : R → InputRest → Type 0) where
     pub stop_unread : (ys xs : List (InputFile R)) (y : InputFile R) (items : List (RunSource R)) (n : ℕ) (fault : Fault)
         → AreOpened can 0 ys items → n ≡ length items → map (λ f. f) ys ≡ take (length ys) xs
         → (length ys < length xs) × (y ≡ get_or xs (length ys) y)
-        → FileGivesOne can y (λ input. IsUnopened n (input ∷ []) fault) → SomeInputsGive (FileGives can) xs (λ all. IsUnopened 0 all fault)
+        → GivesOne (InputFileCanGive can y) (λ input. IsUnopened n (input ∷ []) fault)
+        → SomeInputsGive (InputFileCanGive can) xs (λ all. IsUnopened 0 all fault)
     stop_unread ys xs y items n fault all count so_far turn h =
         let place : n ≡ 0 + length ys = omega (arith, count, opened_many 0 ys items all) in
         let k : ℕ = length ys in
@@ -478,12 +481,12 @@ module _ {R : Type 0} (can : R → InputRest → Type 0) where
         ap (λ t. take k xs ++ t) (ap (λ f. f ∷ drop (k + 1) xs) turn.1) ∙ ap (λ t. take k xs ++ t) (drop_at xs k y turn.0)
         ∙ take-append-drop k xs in
         let is : ys ++ y ∷ drop (k + 1) xs ≡ xs = ap (λ t. t ++ y ∷ drop (k + 1) xs) (sym (map_itself ys) ∙ so_far) ∙ front in
-        subst (λ (fs : List (InputFile R)). SomeInputsGive (FileGives can) fs (λ all. IsUnopened 0 all fault)) is
+        subst (λ (fs : List (InputFile R)). SomeInputsGive (InputFileCanGive can) fs (λ all. IsUnopened 0 all fault)) is
         (stops_after 0 ys items y (drop (k + 1) xs) fault all (h.0, h.1, subst (λ (m : ℕ). IsUnopened m (h.0 ∷ []) fault) place h.2))
 
     -- memory ran out after files that were opened
     pub no_memory : (files : List (InputFile R)) (fault : Fault) → fault ≡ memory_fault
-        → SomeInputsGive (FileGives can) files (λ all. IsUnopened 0 all fault)
+        → SomeInputsGive (InputFileCanGive can) files (λ all. IsUnopened 0 all fault)
     no_memory files fault memory = (map (one_of_file one) files, give_files files, inl memory)
 
   -- One more file was opened.

@@ -9,7 +9,7 @@ use Rattle.osm_model.specs.Pairwise.{Pairwise}
 use Rattle.osm_files.specs.declared.fault.Fault.{Fault}
 use Rattle.osm_files.specs.declared.format.Format.{Format}
 use Rattle.osm_files.specs.declared.reason.Reason.TheVariants.{Memory}
-use Rattle.osm_files.specs.Extent.{GivesRun}
+use Rattle.osm_files.specs.Extent.{RunCanGive}
 use Rattle.osm_files.specs.Fault.{memory_fault, fault_at, IsOfFile}
 use Rattle.osm_files.specs.FileRuns.{IsReadFailure}
 use Rattle.osm_files.specs.Held.{HoldsSorted}
@@ -37,7 +37,7 @@ use Rattle.osm_mirror.specs.run.ShardPart.{IsFilePart, IsPartOf, IsInputOf, AreI
 use Rattle.osm_mirror.specs.run.ShardRefusal.{IsFileRefusal, IsFaultOfFile, fault_in_part, IsFaultAmong, AreTooLong, AreRefused, IsGood}
 use Rattle.osm_mirror.specs.run.ShardRefusal.{IsCutIfGood, RefusesSpan}
 use Rattle.osm_mirror.specs.run.ShardRun.{shard_slices, IsSpanRun}
-use Rattle.osm_mirror.specs.run.SliceRun.{SliceGives, given_slice, given_slices, HasSlice, GivesSlice, IsSliceRun, RefusesSlice}
+use Rattle.osm_mirror.specs.run.SliceRun.{SliceFileCanGive, given_slice, given_slices, HasSlice, GivesSlice, IsSliceRun, RefusesSlice}
 use Rattle.osm_mirror.proofs.run_laws.FilePartLaws.{found_is, good_is, fault_is, slice_number}
 use Rattle.osm_mirror.proofs.run_laws.FilesRefusalLaws.{at_is, none_after}
 use Rattle.osm_mirror.proofs.run_laws.FilesRunLaws.{as_pairs, pairwise_length}
@@ -119,27 +119,27 @@ module _ {F R : Type 0} (known : F → Option (List ℕ)) (fails : F → Type 0)
     GoodSet file set = (bytes : List ℕ) × IsGood known fails file bytes × HoldsSorted bytes set
 
     input_found : (file : F) (input : SliceFile R) (set : VersionSet) (given : Outside × InputRest) (found : VersionSet)
-        → Input file input → Set file set → SliceGives can input given → HasSlice span given found → found ≡ slice set
+        → Input file input → Set file set → SliceFileCanGive can input given → HasSlice span given found → found ≡ slice set
     input_found file input set given found i (all, is, holds) gives has =
         found_is span (fails file) all i.part (subst (λ k. IsPartOf span k i.part) is i.is) input.outside i.outside set holds given found
-        (sym gives.0) (subst (λ k. GivesRun (fails file) k i.part.run i.part.size given.1) is (i.reads given.1 gives.1)) has
+        (sym gives.0) (subst (λ k. RunCanGive (fails file) k i.part.run i.part.size given.1) is (i.reads given.1 gives.1)) has
 
     input_good : (file : F) (input : SliceFile R) (set : VersionSet) (given : Outside × InputRest) → Input file input
-        → GoodSet file set → SliceGives can input given → GivesSlice span given (slice set)
+        → GoodSet file set → SliceFileCanGive can input given → GivesSlice span given (slice set)
     input_good file input set given i (all, (is, never), holds) gives =
         good_is span (fails file) all i.part (subst (λ k. IsPartOf span k i.part) is i.is) input.outside i.outside set holds never given
-        (sym gives.0) (subst (λ k. GivesRun (fails file) k i.part.run i.part.size given.1) is (i.reads given.1 gives.1))
+        (sym gives.0) (subst (λ k. RunCanGive (fails file) k i.part.run i.part.size given.1) is (i.reads given.1 gives.1))
 
     known_fault : (Fails : Type 0) (k : Option (List ℕ)) (part : FilePart) (outside : Outside) (number : ℕ) (given : Outside × InputRest)
         (fault : Fault) → IsPartOf span k part → outside ≡ part.outside → given.0 ≡ outside
-        → GivesRun Fails k part.run part.size given.1 → (given_slice span number given).refusal ≡ Some fault
+        → RunCanGive Fails k part.run part.size given.1 → (given_slice span number given).refusal ≡ Some fault
         → IsFileRefusal Fails k fault
     known_fault Fails None part outside number given fault is outside_is e gives refused = inr tt
     known_fault Fails (Some all) part outside number given fault is outside_is e gives refused =
         fault_is span Fails all part is outside outside_is number given fault e gives refused
 
     input_fault : (file : F) (input : SliceFile R) (number : ℕ) (given : Outside × InputRest) (fault : Fault) → Input file input
-        → SliceGives can input given → (given_slice span number given).refusal ≡ Some fault
+        → SliceFileCanGive can input given → (given_slice span number given).refusal ≡ Some fault
         → IsFileRefusal (fails file) (known file) fault
     input_fault file input number given fault i gives refused =
         known_fault (fails file) (known file) i.part input.outside number given fault i.is i.outside (sym gives.0)
@@ -151,28 +151,28 @@ module _ {F R : Type 0} (known : F → Option (List ℕ)) (fails : F → Type 0)
     sets_of = chained (λ file bytes. known file ≡ Some bytes) HoldsSorted Set (λ file bytes set is holds. (bytes, is, holds))
 
     parts_are : (files : List F) (inputs : List (SliceFile R)) (given : List (Outside × InputRest)) (found held : List VersionSet)
-        → Pairwise Input files inputs → Pairwise Set files held → AllGive (SliceGives can) inputs given
+        → Pairwise Input files inputs → Pairwise Set files held → AllGive (SliceFileCanGive can) inputs given
         → Pairwise (HasSlice span) given found → found ≡ map slice held
     parts_are files inputs given found held i s g h =
         let of_inputs = turned Input Set (λ input set. (file : F) × Input file input × Set file set)
         (λ file input set a b. (file, a, b)) files inputs held i s in
-        let of_given = turned (SliceGives can) (λ input set. (file : F) × Input file input × Set file set)
+        let of_given = turned (SliceFileCanGive can) (λ input set. (file : F) × Input file input × Set file set)
         (λ c set. (part : VersionSet) → HasSlice span c part → part ≡ slice set)
         (λ input c set gives (file, a, b) part has. input_found file input set c part a b gives has) inputs given held
-        (as_pairs (SliceGives can) inputs given g) of_inputs in
+        (as_pairs (SliceFileCanGive can) inputs given g) of_inputs in
         mapped_is slice found held (turned (HasSlice span) (λ c set. (part : VersionSet) → HasSlice span c part → part ≡ slice set)
         (λ part set. part ≡ slice set) (λ c part set has one. one part has) given found held h of_given)
 
     slices_given : (files : List F) (inputs : List (SliceFile R)) (given : List (Outside × InputRest)) (held : List VersionSet)
-        → Pairwise Input files inputs → Pairwise GoodSet files held → AllGive (SliceGives can) inputs given
+        → Pairwise Input files inputs → Pairwise GoodSet files held → AllGive (SliceFileCanGive can) inputs given
         → Pairwise (GivesSlice span) given (map slice held)
     slices_given files inputs given held i s g =
         let of_inputs = turned Input GoodSet (λ input set. (file : F) × Input file input × GoodSet file set)
         (λ file input set a b. (file, a, b)) files inputs held i s in
         to_mapped (GivesSlice span) slice given held
-        (turned (SliceGives can) (λ input set. (file : F) × Input file input × GoodSet file set)
+        (turned (SliceFileCanGive can) (λ input set. (file : F) × Input file input × GoodSet file set)
         (λ c set. GivesSlice span c (slice set)) (λ input c set gives (file, a, b). input_good file input set c a b gives) inputs given
-        held (as_pairs (SliceGives can) inputs given g) of_inputs)
+        held (as_pairs (SliceFileCanGive can) inputs given g) of_inputs)
 
     -- the file of an input that is refused
     record Refusal (n : ℕ) (files : List F) (fault : Fault) : Type 0 where
@@ -192,7 +192,7 @@ module _ {F R : Type 0} (known : F → Option (List ℕ)) (fails : F → Type 0)
     }
 
     refused_at : (n k : ℕ) (files : List F) (inputs : List (SliceFile R)) (given : List (Outside × InputRest)) (fault : Fault)
-        → Pairwise Input files inputs → AllGive (SliceGives can) inputs given → k < length (given_slices n span given)
+        → Pairwise Input files inputs → AllGive (SliceFileCanGive can) inputs given → k < length (given_slices n span given)
         → (rest_at (given_slices n span given) k).refusal ≡ Some fault → Refusal n files fault
     refused_at n k files inputs [] fault i g low e = absurd (omega (arith, low))
     refused_at n k files [] (c ∷ given) fault i g low e = absurd g
@@ -214,7 +214,8 @@ module _ {F R : Type 0} (known : F → Option (List ℕ)) (fails : F → Type 0)
   no_sets [] (s ∷ found) span is h = absurd h
   no_sets (c ∷ given) found span is h = absurd (omega (arith, ap length is))
 
-  none_given : (inputs : List (SliceFile R)) (given : List (Outside × InputRest)) → inputs ≡ [] → AllGive (SliceGives can) inputs given
+  none_given : (inputs : List (SliceFile R)) (given : List (Outside × InputRest)) → inputs ≡ []
+      → AllGive (SliceFileCanGive can) inputs given
       → given ≡ []
   none_given [] [] is g = refl
   none_given [] (c ∷ given) is g = absurd g
@@ -234,7 +235,7 @@ module _ {F R : Type 0} (known : F → Option (List ℕ)) (fails : F → Type 0)
   pub span_run_is : (all_objects sliced : Span) (span : Option Span) → sliced ≡ unwrap_or span all_objects
       → (files : List F) (inputs : List (SliceFile R))
       → AreInputsOf known fails can span files inputs → (selection : Selection) (format : Format) (change : Change) (counts : Counts)
-      → SomeInputsGive (SliceGives can) inputs
+      → SomeInputsGive (SliceFileCanGive can) inputs
       (λ given. IsSliceRun (record { span = sliced; selection = selection }) given format change counts)
       → (all : List (List ℕ)) (held : List VersionSet) → HaveBytes known files all → Pairwise HoldsSorted all held
       → IsSpanRun selection span held format change counts
@@ -325,7 +326,7 @@ module _ {F R : Type 0} (known : F → Option (List ℕ)) (fails : F → Type 0)
       → (files : List F) (inputs : List (SliceFile R)) (parts : List FilePart)
       → length parts ≡ length inputs → AreInputsOf known fails can span files inputs → (selection : Selection) (format : Format)
       (change : Change) (fault : Fault)
-      → SomeInputsGive (SliceGives can) inputs
+      → SomeInputsGive (SliceFileCanGive can) inputs
       (λ given. RefusesSlice (record { span = sliced; selection = selection }) given format change fault)
       → RefusesSpan known fails IsFileRefusal selection format (λ _. span) files change (Moved parts (length files) fault)
   span_refused all_objects sliced None is files inputs parts many are selection format change fault (given, g, refused) =
@@ -342,7 +343,8 @@ module _ {F R : Type 0} (known : F → Option (List ℕ)) (fails : F → Type 0)
   span_refused all_objects sliced (Some span) is files inputs parts many are selection format change fault (given, g, refused_as) =
       let refused : RefusesSlice (record { span = span; selection = selection }) given format change fault =
       subst (λ (s : Span). RefusesSlice (record { span = s; selection = selection }) given format change fault) is refused_as in
-      let inputs_many : length inputs ≡ length given = pairwise_length (SliceGives can) inputs given (as_pairs (SliceGives can) inputs
+      let inputs_many : length inputs ≡ length given = pairwise_length (SliceFileCanGive can) inputs given
+      (as_pairs (SliceFileCanGive can) inputs
       given g) in
       let files_many : length files ≡ length inputs = pairwise_length (Input span) files inputs are in
       let number : length given ≡ length parts = sym (many ∙ inputs_many) in

@@ -66,7 +66,3 @@ pub record IsCounted (still : source.VersionsToCome) (sizes : Sizes) : Type 0 wh
   pub versions : sizes.versions ≡ capped_count (length still.list)
   pub objects : sizes.objects ≡ capped_count (objects_after None still.list)
   pub tally : Tallies still.list sizes.tally
-
--- a source can give a list with this property
-abbrev pub SourceGives : (source.VersionsToCome → Type 0) → (source.VersionsToCome → Type 0) → Type 0
-SourceGives can P = (still : source.VersionsToCome) × can still × P still

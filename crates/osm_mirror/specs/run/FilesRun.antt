@@ -10,7 +10,7 @@ use Rattle.osm_files.specs.declared.output.Output.{Ghosts}
 use Rattle.osm_files.specs.declared.sorted_run.SortedRun.{SortedRun}
 use Rattle.osm_files.specs.Change.{change_of}
 use Rattle.osm_files.specs.Clear.{IsCleared}
-use Rattle.osm_files.specs.Extent.{GivesRun}
+use Rattle.osm_files.specs.Extent.{RunCanGive}
 use Rattle.osm_files.specs.Fault.{fault_at}
 use Rattle.osm_files.specs.FileRuns.{IsAccepted, IsSortedRun}
 use Rattle.osm_files.specs.Held.{Holds, HoldsSorted}
@@ -114,7 +114,7 @@ module _ {F R : Type 0} (bytes : F → Option (List ℕ)) where
 -- an input is read in this order, and gives a run of a file of `size` bytes
 pub record OpensRun {I : Type 0} (gives : I → InputRest → Type 0) (Fails : Type 0) (known : Option (List ℕ)) (size : ℕ)
     (order : Order) (input : InputFile I) (run : SortedRun) : Type 0 where
-  pub gives_run : (c : InputRest) → gives input.reader c → GivesRun Fails known run size c
+  pub gives_run : (c : InputRest) → gives input.reader c → RunCanGive Fails known run size c
   pub order_is : input.read_as ≡ read_as_of order
 
 -- an input is read in this order, and gives what a stream gives

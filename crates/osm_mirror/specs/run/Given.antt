@@ -43,16 +43,12 @@ IsFileAs (Any, c) = GivesFile c
 IsFileAs (Within span outside, c) = GivesSlice span (outside, c)
 
 -- the reader of this file can give these bytes, and the file is to be read in this way
-abbrev pub FileGives : {R : Type 0} → (R → InputRest → Type 0) → InputFile R → ReadAs × InputRest → Type 0
-FileGives can file input = (file.read_as ≡ input.0) × can file.reader input.1
+abbrev pub InputFileCanGive : {R : Type 0} → (R → InputRest → Type 0) → InputFile R → ReadAs × InputRest → Type 0
+InputFileCanGive can file input = (file.read_as ≡ input.0) × can file.reader input.1
 
 -- something that the file can give, if `one` is what its reader can give
 abbrev pub one_of_file : {R : Type 0} → (R → InputRest) → InputFile R → ReadAs × InputRest
 one_of_file one file = (file.read_as, one file.reader)
-
--- the file can give something with this property
-abbrev pub FileGivesOne : {R : Type 0} → (R → InputRest → Type 0) → InputFile R → (ReadAs × InputRest → Type 0) → Type 0
-FileGivesOne can file P = (input : ReadAs × InputRest) × FileGives can file input × P input
 
 -- a file that is read in this way, with this reader
 abbrev pub file_as : {R : Type 0} → ReadAs → R → InputFile R
@@ -96,7 +92,7 @@ IsRead (Within span outside, c) = Unit {0}
 -- A source of this file, which is the input of this number, was opened. For all that the source can give, the file
 -- could give bytes whose source gives the same. An input of any order is a file.
 abbrev pub IsOpened : {R : Type 0} → (R → InputRest → Type 0) → ℕ → InputFile R → RunSource R → Type 0
-IsOpened can number file source = Explained (FileGives can file) (SourceCanGive can source)
+IsOpened can number file source = Explained (InputFileCanGive can file) (SourceCanGive can source)
     (λ input still. (still ≡ source_of number input) × IsRead input)
 
 -- the sources are those of these files, one for one; the files are numbered from `number` on

@@ -16,7 +16,7 @@ use Rattle.osm_merge.specs.ToCome.{VersionsToCome}
 use Rattle.osm_merge.specs.Union.{union_given}
 use Rattle.osm_mirror.specs.declared.run.input.InputFile.{InputFile}
 use Rattle.osm_mirror.specs.declared.run.input.ReadAs.{ReadAs}
-use Rattle.osm_mirror.specs.run.Given.{FileGives, GivesAs, sources}
+use Rattle.osm_mirror.specs.run.Given.{InputFileCanGive, GivesAs, sources}
 use Rattle.osm_mirror.specs.run.Merge as merge
 use Rattle.osm_mirror.specs.run.SelectedRun.{IsRun, RefusesRun}
 
@@ -60,7 +60,7 @@ MergesOfKnown {R = R} {O = O} can output = (inputs : List R) (format : Format) (
 -- runs over inputs that may report their bytes
 abbrev pub RunsOfKnown : {R O : Type 0} → (R → InputRest → Type 0) → Ghosts O → Type 0
 RunsOfKnown {R = R} {O = O} can output = (selection : Selection) (inputs : List (InputFile R)) (format : Format)
-    (before after : O) → IsRunOfKnown (FileGives can) inputs GivesAs
+    (before after : O) → IsRunOfKnown (InputFileCanGive can) inputs GivesAs
     (λ all. IsRun selection all format (change_of output before after))
     (λ all. RefusesRun output selection all format before after)
 

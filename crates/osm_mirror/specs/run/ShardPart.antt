@@ -3,7 +3,7 @@ use Rattle.std.specs.Prelude.{◌≡◌, ◌⊎◌, ℕ, ◌-◌, ◌<◌, ◌�
 use Rattle.std.specs.Prelude.{IfSome, if◌then◌else◌}
 use Rattle.osm_model.specs.Pairwise.{Pairwise}
 use Rattle.osm_files.specs.declared.sorted_run.SortedRun.{SortedRun}
-use Rattle.osm_files.specs.Extent.{GivesRun}
+use Rattle.osm_files.specs.Extent.{RunCanGive}
 use Rattle.osm_files.specs.Input.{InputRest}
 use Rattle.osm_files.specs.SortedRun.{whole_run}
 use Rattle.osm_merge.specs.declared.object.Object.{Object}
@@ -75,7 +75,7 @@ module _ {F R : Type 0} (known : F → Option (List ℕ)) (fails : F → Type 0)
     pub part : FilePart
     pub is : IsPartOf span (known file) part
     pub outside : input.outside ≡ part.outside
-    pub reads : (c : InputRest) → can input.reader c → GivesRun (fails file) (known file) part.run part.size c
+    pub reads : (c : InputRest) → can input.reader c → RunCanGive (fails file) (known file) part.run part.size c
 
   -- the inputs are the parts of these files within a span, one for one; without a span there are none
   abbrev pub AreInputsOf : Option Span → List F → List (SliceFile R) → Type 0

@@ -24,8 +24,8 @@ use Rattle.osm_mirror.specs.run.Merge.{GivesSorted}
 use Rattle.osm_mirror.specs.run.Run.{sources_by, IsBoundedFor, IsRunBy, RefusesRunBy}
 
 -- the reader of a file can give these bytes, and the file's versions outside of the span are to be dropped or refused
-abbrev pub SliceGives : {R : Type 0} → (R → InputRest → Type 0) → SliceFile R → Outside × InputRest → Type 0
-SliceGives can file input = (file.outside ≡ input.0) × can file.reader input.1
+abbrev pub SliceFileCanGive : {R : Type 0} → (R → InputRest → Type 0) → SliceFile R → Outside × InputRest → Type 0
+SliceFileCanGive can file input = (file.outside ≡ input.0) × can file.reader input.1
 
 -- the versions that an input gives within a span
 abbrev pub given_slice : Span → ℕ → Outside × InputRest → source.VersionsToCome

@@ -4,7 +4,7 @@ ghost use Rattle.osm_files.specs.Fault.{memory_fault};
 ghost use Rattle.osm_files.specs.Input.{GivesOne};
 ghost use Rattle.osm_files.specs.Load.{StopsLoading, StopsOpening};
 ghost use Rattle.osm_merge.specs.Union.{capped_count};
-ghost use Rattle.osm_mirror.specs.run.Check.{Reports, IsChecked, SourceGives, IsCounted, checked_as, new_objects};
+ghost use Rattle.osm_mirror.specs.run.Check.{Reports, IsChecked, IsCounted, checked_as, new_objects};
 ghost use Rattle.osm_mirror.specs.run.Tally.{IsTalliedWith};
 
 use crate::run::tally::Tally;
@@ -124,8 +124,8 @@ pub fn run_tally_sorted<R: Input + Drop>(alloc: Global, input: R) -> Result<Chec
 
 /// The sizes of what a source gives.
 fn count<S: Source>(source: &mut S) -> Result<Sizes, Fault>
-    ensures sizes { IfOk result (λ sizes. SourceGives (S.can_give source.old) (λ still. IsCounted still sizes)) }
-    ensures refused { IfErr result (λ fault. SourceGives (S.can_give source.old) (λ still.
+    ensures sizes { IfOk result (λ sizes. GivesOne (S.can_give source.old) (λ still. IsCounted still sizes)) }
+    ensures refused { IfErr result (λ fault. GivesOne (S.can_give source.old) (λ still.
         (fault ≡ memory_fault) ⊎ (still.refusal ≡ Some fault))) }
 {
     let mut sizes = Sizes {

@@ -2,7 +2,7 @@
 ghost use Rattle.std.specs.Prelude.{◌≡◌, ◌+◌, ◌-◌, ◌<◌, ◌^◌, length, IfOk, IfErr, OnOk};
 ghost use Rattle.osm_files.specs.Change.{change_of};
 ghost use Rattle.osm_files.specs.Fault.{memory_fault};
-ghost use Rattle.osm_files.specs.FileInput.{FileInputGives};
+ghost use Rattle.osm_files.specs.FileInput.{FileInputCanGive};
 ghost use Rattle.osm_files.specs.Output.{IsGoodThroughout};
 ghost use Rattle.osm_merge.specs.Merged.{Grows};
 ghost use Rattle.osm_mirror.specs.run.FilesRefusal.{RefusesTurn};
@@ -51,7 +51,7 @@ fn open_files<'f, F: ReadAt, R: Input + Drop>(
 ) -> Result<Vec<InputFile<FileInput<'f, F, R>>>, Fault>
     requires same { length files.items ≡ length ways.now }
     ensures opened { IfOk result (λ inputs. OpensFiles F.fails F.bytes R.can_give
-        (FileInputGives F.fails F.bytes R.can_give) files.entry.items ways.now inputs.items) }
+        (FileInputCanGive F.fails F.bytes R.can_give) files.entry.items ways.now inputs.items) }
     ensures memory { IfErr result (λ fault. fault ≡ memory_fault) }
 {
     let mut inputs = Vec::new(alloc);
@@ -67,7 +67,7 @@ fn push_inputs<'f, F: ReadAt, R: Input + Drop>(
     way: &FileWay,
     inputs: &mut Vec<InputFile<FileInput<'f, F, R>>>,
 ) -> Result<(), Fault>
-    ensures added { OnOk result (AddsFile F.fails F.bytes R.can_give (FileInputGives F.fails F.bytes R.can_give)
+    ensures added { OnOk result (AddsFile F.fails F.bytes R.can_give (FileInputCanGive F.fails F.bytes R.can_give)
         file.entry way.now inputs.old.items inputs.new.items) }
     ensures memory { IfErr result (λ fault. fault ≡ memory_fault) }
 {
@@ -83,7 +83,7 @@ fn push_stream<'f, F: ReadAt, R: Input + Drop>(
     way: &FileWay,
     inputs: &mut Vec<InputFile<FileInput<'f, F, R>>>,
 ) -> Result<(), Fault>
-    ensures added { OnOk result (AddsFile F.fails F.bytes R.can_give (FileInputGives F.fails F.bytes R.can_give)
+    ensures added { OnOk result (AddsFile F.fails F.bytes R.can_give (FileInputCanGive F.fails F.bytes R.can_give)
         (RunFile.Stream stream) way.now inputs.old.items inputs.new.items) }
     ensures memory { IfErr result (λ fault. fault ≡ memory_fault) }
 {
@@ -98,7 +98,7 @@ fn push_runs<'f, F: ReadAt, R: Input + Drop>(
     way: &FileWay,
     inputs: &mut Vec<InputFile<FileInput<'f, F, R>>>,
 ) -> Result<(), Fault>
-    ensures added { OnOk result (AddsFile F.fails F.bytes R.can_give (FileInputGives F.fails F.bytes R.can_give)
+    ensures added { OnOk result (AddsFile F.fails F.bytes R.can_give (FileInputCanGive F.fails F.bytes R.can_give)
         (RunFile.File file.entry) way.now inputs.old.items inputs.new.items) }
     ensures memory { IfErr result (λ fault. fault ≡ memory_fault) }
 {

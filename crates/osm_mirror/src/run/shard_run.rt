@@ -3,7 +3,7 @@ ghost use Rattle.std.specs.Prelude.{◌≡◌, ◌⊎◌, ◌+◌, ◌<◌, ◌�
 ghost use Rattle.std.specs.Prelude.{OnOk, IfSome};
 ghost use Rattle.osm_files.specs.Change.{change_of};
 ghost use Rattle.osm_files.specs.Fault.{memory_fault};
-ghost use Rattle.osm_files.specs.FileInput.{FramedGives};
+ghost use Rattle.osm_files.specs.FileInput.{FramedCanGive};
 ghost use Rattle.osm_files.specs.Held.{HoldsSorted};
 ghost use Rattle.osm_files.specs.Output.{IsGoodThroughout};
 ghost use Rattle.osm_model.specs.Pairwise.{Pairwise};
@@ -183,7 +183,7 @@ fn open_parts<'f, F: ReadAt>(
 ) -> Result<Vec<SliceFile<FramedExtent<'f, F>>>, Fault>
     requires ascends { IfSome span (λ span. is_ascending span ≡ true) }
     ensures inputs { IfOk result (λ inputs. AreInputsOf (λ file. F.bytes file.now) (λ file. F.fails file.now)
-        (FramedGives F.fails F.bytes) span files.now inputs.items) }
+        (FramedCanGive F.fails F.bytes) span files.now inputs.items) }
     ensures parts { IfOk result (λ inputs. length parts.new.items ≡ length parts.old.items + length inputs.items) }
     ensures refused { IfErr result (AreRefused (λ file. F.bytes file.now) (λ file. F.fails file.now) IsFileRefusal
         files.now) }
@@ -207,7 +207,7 @@ fn open_part<'f, F: ReadAt>(
     part: FilePart,
 ) -> SliceFile<FramedExtent<'f, F>>
     requires part { IsPartOf span (F.bytes file.now) part }
-    ensures { IsInputOf (λ file. F.bytes file.now) (λ file. F.fails file.now) (FramedGives F.fails F.bytes) span
+    ensures { IsInputOf (λ file. F.bytes file.now) (λ file. F.fails file.now) (FramedCanGive F.fails F.bytes) span
         file.entry result }
 {
     SliceFile {

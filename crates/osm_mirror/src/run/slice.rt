@@ -6,7 +6,7 @@ ghost use Rattle.osm_files.specs.Change.{change_of};
 ghost use Rattle.osm_merge.specs.Giving.{SomeInputsGive};
 ghost use Rattle.osm_merge.specs.Merged.{Grows};
 ghost use Rattle.osm_mirror.specs.run.Given.{file_within};
-ghost use Rattle.osm_mirror.specs.run.SliceRun.{SliceGives, IsSliceRun, RefusesSlice};
+ghost use Rattle.osm_mirror.specs.run.SliceRun.{SliceFileCanGive, IsSliceRun, RefusesSlice};
 
 use crate::run::input::{InputFile, ReadAs};
 use crate::run::run_selected;
@@ -50,9 +50,9 @@ pub fn run_slice<R: Input + Drop, W: Output, P: Progress>(
     out: &mut W,
     progress: &mut P,
 ) -> Result<Counts, Fault>
-    ensures written { IfOk result (λ counts. SomeInputsGive (SliceGives R.can_give) inputs.items (λ all.
+    ensures written { IfOk result (λ counts. SomeInputsGive (SliceFileCanGive R.can_give) inputs.items (λ all.
         IsSliceRun slice all format (change_of W.Output out.old out.new) counts)) }
-    ensures refused { IfErr result (λ fault. SomeInputsGive (SliceGives R.can_give) inputs.items (λ all.
+    ensures refused { IfErr result (λ fault. SomeInputsGive (SliceFileCanGive R.can_give) inputs.items (λ all.
         RefusesSlice slice all format (change_of W.Output out.old out.new) fault)) }
     ensures kept { Grows (change_of W.Output out.old out.new) }
     ensures good { OnOk result (IsGoodThroughout (change_of W.Output out.old out.new)) }

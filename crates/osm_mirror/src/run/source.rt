@@ -3,7 +3,8 @@
 ghost use Rattle.std.specs.Prelude.{◌≡◌, [], ◌∷◌, ◌++◌, length, IfOk, IfErr, OnOk};
 ghost use Rattle.osm_files.specs.Fault.{memory_fault};
 ghost use Rattle.osm_merge.specs.Giving.{SomeInputsGive};
-ghost use Rattle.osm_mirror.specs.run.Given.{FileGives, FileGivesOne, file_as, IsOpened, AreOpened, IsUnopened};
+ghost use Rattle.osm_files.specs.Input.{GivesOne};
+ghost use Rattle.osm_mirror.specs.run.Given.{InputFileCanGive, file_as, IsOpened, AreOpened, IsUnopened};
 ghost use Rattle.osm_mirror.specs.declared.run.input.ReadAs.TheVariants as read_as;
 
 use crate::run::input::{InputFile, ReadAs};
@@ -70,7 +71,7 @@ pub fn open_inputs<R: Input + Drop>(
     inputs: Vec<InputFile<R>>,
 ) -> Result<Vec<RunSource<R>>, Fault>
     ensures opened { IfOk result (λ sources. AreOpened R.can_give 0 inputs.items sources.items) }
-    ensures refused { IfErr result (λ fault. SomeInputsGive (FileGives R.can_give) inputs.items (λ all.
+    ensures refused { IfErr result (λ fault. SomeInputsGive (InputFileCanGive R.can_give) inputs.items (λ all.
         IsUnopened 0 all fault)) }
 {
     let count = inputs.len();
@@ -90,7 +91,7 @@ fn push_input<R: Input + Drop>(
 ) -> Result<(), Fault>
     ensures pushed { OnOk result ((source : _) × (sources.new.items ≡ sources.old.items ++ source ∷ [])
         × IsOpened R.can_give (length sources.old.items) file source) }
-    ensures refused { IfErr result (λ fault. FileGivesOne R.can_give file (λ input.
+    ensures refused { IfErr result (λ fault. GivesOne (InputFileCanGive R.can_give file) (λ input.
         IsUnopened (length sources.old.items) (input ∷ []) fault)) }
 {
     Ok(sources.push(open_input(alloc, sources.len(), count, file)?)?)
@@ -104,7 +105,7 @@ fn open_input<R: Input + Drop>(
     file: InputFile<R>,
 ) -> Result<RunSource<R>, Fault>
     ensures opened { IfOk result (λ source. IsOpened R.can_give number file source) }
-    ensures refused { IfErr result (λ fault. FileGivesOne R.can_give file (λ input.
+    ensures refused { IfErr result (λ fault. GivesOne (InputFileCanGive R.can_give file) (λ input.
         IsUnopened number (input ∷ []) fault)) }
 {
     match file.read_as {
@@ -149,7 +150,8 @@ fn slice<R: Input + Drop>(
 /// A file of any order as the source of the input `number`. The call reads the file to its end.
 fn load<R: Input + Drop>(alloc: Global, number: usize, reader: R) -> Result<RunSource<R>, Fault>
     ensures opened { IfOk result (λ source. IsOpened R.can_give number (file_as read_as.Any reader) source) }
-    ensures refused { IfErr result (λ fault. FileGivesOne R.can_give (file_as read_as.Any reader) (λ input.
+    ensures refused { IfErr result (λ fault.
+        GivesOne (InputFileCanGive R.can_give (file_as read_as.Any reader)) (λ input.
         IsUnopened number (input ∷ []) fault)) }
 {
     let loaded = load_any(alloc, number, reader)?;

@@ -7,7 +7,7 @@ use Rattle.std.proofs.lemmas.Iterator.{YieldsList-from_slice, YieldsList-from_zi
 use Rattle.std.proofs.lemmas.Iterator.Adapters.{YieldsList-from_vec}
 use Rattle.std.proofs.lemmas.Iterator.Consumers.{YieldsList-end}
 use Rattle.std.proofs.lemmas.List.{map-append}
-use Rattle.osm_files.specs.FileInput.{FileInputGives}
+use Rattle.osm_files.specs.FileInput.{FileInputCanGive}
 use Rattle.osm_mirror.specs.declared.run.file_way.FileWay.{FileWay}
 use Rattle.osm_mirror.specs.declared.run.files_run.Order.TheVariants.{Sorted}
 use Rattle.osm_mirror.specs.declared.run.files_run.RunFile.{RunFile}
@@ -20,7 +20,7 @@ files-preserved g c =
     let fails = g.F.ReadAt.fails in
     let bytes = g.F.ReadAt.bytes in
     let can = g.R.Input.can_give in
-    let gives = FileInputGives fails bytes can in
+    let gives = FileInputCanGive fails bytes can in
     let added = c.in_ok-push_inputs.ensures.added in
     let firsts = map (λ p. p.0) c.files.yielded in
     let seconds = map (λ p. p.1.now) c.files.yielded in
@@ -50,7 +50,7 @@ returns-clause-opened g c =
     sym (firsts_of (λ way. way.now) c.files.yielded) ∙ ap (map (λ p. p.0)) end.0 ∙ zip_firsts files ways c.requires.same in
     let seconds : map (λ p. p.1.now) c.files.yielded ≡ ways =
     sym (seconds_of (λ way. way.now) c.files.yielded) ∙ ap (map (λ p. p.1)) end.0 ∙ zip_seconds files ways c.requires.same in
-    let gives = FileInputGives g.F.ReadAt.fails g.F.ReadAt.bytes g.R.Input.can_give in
+    let gives = FileInputCanGive g.F.ReadAt.fails g.F.ReadAt.bytes g.R.Input.can_give in
     subst (λ fs. OpensFiles g.F.ReadAt.fails g.F.ReadAt.bytes g.R.Input.can_give gives fs ways c.files.inputs.items) firsts
     (subst (λ ws. OpensFiles g.F.ReadAt.fails g.F.ReadAt.bytes g.R.Input.can_give gives (map (λ p. p.0) c.files.yielded) ws
     c.files.inputs.items) seconds c.files.invariant.2)

@@ -4,7 +4,7 @@ use Rattle.osm_model.specs.Pairwise.{Pairwise}
 use Rattle.osm_model.proofs.PairwiseLaws.{pairwise_push}
 use Rattle.osm_files.specs.declared.file_input.FileInput.TheVariants.{Extent}
 use Rattle.osm_files.specs.declared.sorted_run.SortedRun.{SortedRun}
-use Rattle.osm_files.specs.FileInput.{FileInputGives}
+use Rattle.osm_files.specs.FileInput.{FileInputCanGive}
 use Rattle.osm_mirror.specs.declared.run.input.InputFile.{InputFile}
 use Rattle.osm_mirror.specs.run.FilesRun.{OpensRun}
 use Rattle.osm_mirror.proofs.run_laws.FilesRunLaws.{take_more}
@@ -12,7 +12,7 @@ use Rattle.osm_mirror.proofs.run.files_turn.push_runs.Goals as goal
 
 pub runs-preserved : goal.runs-preserved
 runs-preserved g c =
-    let gives = FileInputGives g.F.ReadAt.fails g.F.ReadAt.bytes g.R.Input.can_give in
+    let gives = FileInputCanGive g.F.ReadAt.fails g.F.ReadAt.bytes g.R.Input.can_give in
     let way = c.args.way.now in
     let Opens : InputFile _ → SortedRun → Type 0 =
     OpensRun gives (g.F.ReadAt.fails c.args.file.now) (g.F.ReadAt.bytes c.args.file.now) way.size way.order in
@@ -33,7 +33,7 @@ runs-preserved g c =
 
 pub returns-clause-added : goal.returns-clause-added
 returns-clause-added g c =
-    let gives = FileInputGives g.F.ReadAt.fails g.F.ReadAt.bytes g.R.Input.can_give in
+    let gives = FileInputCanGive g.F.ReadAt.fails g.F.ReadAt.bytes g.R.Input.can_give in
     let way = c.args.way.now in
     let Opens : InputFile _ → SortedRun → Type 0 =
     OpensRun gives (g.F.ReadAt.fails c.args.file.now) (g.F.ReadAt.bytes c.args.file.now) way.size way.order in

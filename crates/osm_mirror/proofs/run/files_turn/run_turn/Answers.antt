@@ -1,7 +1,7 @@
 use Rattle.std.proofs.Common.{sym, refl, subst, inl, append-nil}
 use Rattle.std.proofs.lemmas.Result.{err_from_is_err_and}
 use Rattle.osm_files.specs.Change.{change_of}
-use Rattle.osm_files.specs.FileInput.{FileInputGives}
+use Rattle.osm_files.specs.FileInput.{FileInputCanGive}
 use Rattle.osm_mirror.specs.run.FilesRefusal.{RefusesTurn}
 use Rattle.osm_mirror.proofs.run_laws.FilesGoodLaws.{nothing_cut, turn_refused}
 use Rattle.osm_mirror.proofs.run_laws.FilesRunLaws.{run_is, pairwise_length}
@@ -27,7 +27,7 @@ returns-in_err-inputs-clause-refused g c =
 pub returns-in-Ok-clause-written : goal.returns-in-Ok-clause-written
 returns-in-Ok-clause-written g c =
     run_is g.F.ReadAt.fails g.F.ReadAt.bytes g.R.Input.can_give
-    (FileInputGives g.F.ReadAt.fails g.F.ReadAt.bytes g.R.Input.can_give) c.args.run.order c.sorted_runs_hold_the_file.ensures c.args.run
+    (FileInputCanGive g.F.ReadAt.fails g.F.ReadAt.bytes g.R.Input.can_give) c.args.run.order c.sorted_runs_hold_the_file.ensures c.args.run
     c.args.files.items c.args.ways.now c.in_ok-inputs.inputs.items refl c.requires.fit c.in_ok-inputs.ensures.opened
     (change_of g.W.Output c.args.out.now c.run_selected.new.out) c.in-Ok.counts c.in-Ok.ensures.written
 
@@ -36,6 +36,6 @@ returns-in-Err-clause-refused g c =
     subst (RefusesTurn g.F.ReadAt.fails g.F.ReadAt.bytes g.R.Input.can_give g.W.Output c.args.run c.args.files.items c.args.ways.now
     c.args.out.now c.run_selected.new.out) (sym c.fault_of_file.ensures.same)
     (turn_refused g.F.ReadAt.fails g.F.ReadAt.bytes g.R.Input.can_give
-    (FileInputGives g.F.ReadAt.fails g.F.ReadAt.bytes g.R.Input.can_give) g.W.Output c.args.run c.args.files.items c.args.ways.now
+    (FileInputCanGive g.F.ReadAt.fails g.F.ReadAt.bytes g.R.Input.can_give) g.W.Output c.args.run c.args.files.items c.args.ways.now
     c.in_ok-inputs.inputs.items c.requires.fit c.in_ok-inputs.ensures.opened c.args.out.now c.run_selected.new.out c.in-Err.fault
     c.fault_of_file.ensures.place c.sorted_runs_hold_the_file.ensures c.in-Err.ensures.refused)

@@ -1,7 +1,7 @@
 use Rattle.std.proofs.Common.{◌∙◌, List, ◌∷◌, ◌++◌, [], ℕ, Option, take, length, Bor, arith, sym, ap, subst, length-append, inl, inr}
 use Rattle.std.proofs.lemmas.Result.{err_from_is_err_and}
 use Rattle.std.proofs.lemmas.List.{take_all}
-use Rattle.osm_files.specs.FileInput.{FramedGives}
+use Rattle.osm_files.specs.FileInput.{FramedCanGive}
 use Rattle.osm_model.specs.Pairwise.{Pairwise}
 use Rattle.osm_model.proofs.PairwiseLaws.{pairwise_push}
 use Rattle.osm_mirror.specs.run.ShardPart.{IsInputOf, AreInputsOf}
@@ -15,7 +15,7 @@ pub files-preserved : goal.files-preserved
 files-preserved g c =
     let known : Bor g.row.F.Denot → Option (List ℕ) = λ file. g.F.ReadAt.bytes file.now in
     let fails : Bor g.row.F.Denot → Type 0 = λ file. g.F.ReadAt.fails file.now in
-    let can = FramedGives g.F.ReadAt.fails g.F.ReadAt.bytes in
+    let can = FramedCanGive g.F.ReadAt.fails g.F.ReadAt.bytes in
     let files = c.args.files.now in
     let file = c.index-files-number.result in
     let more = take_more files c.files.number file (omega (arith, c.files-test.true)) c.index-files-number.is in
@@ -49,7 +49,7 @@ pub returns-clause-inputs : goal.returns-clause-inputs
 returns-clause-inputs g c =
     let known : Bor g.row.F.Denot → Option (List ℕ) = λ file. g.F.ReadAt.bytes file.now in
     let fails : Bor g.row.F.Denot → Type 0 = λ file. g.F.ReadAt.fails file.now in
-    let can = FramedGives g.F.ReadAt.fails g.F.ReadAt.bytes in
+    let can = FramedCanGive g.F.ReadAt.fails g.F.ReadAt.bytes in
     let files = c.args.files.now in
     let whole = take_all c.files.number files (omega (arith, c.files-test.false)) in
     subst (λ s. AreInputsOf known fails can s files c.files.inputs.items) (sym c.in-Some.is)

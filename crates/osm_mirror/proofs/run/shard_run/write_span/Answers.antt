@@ -1,14 +1,14 @@
 use Rattle.std.proofs.Common.{◌∙◌, List, ℕ, Option, Bor, ap, length, arith, sym, subst}
 use Rattle.std.proofs.lemmas.Result.{err_from_is_err_and}
 use Rattle.osm_files.specs.Change.{change_of}
-use Rattle.osm_files.specs.FileInput.{FramedGives}
+use Rattle.osm_files.specs.FileInput.{FramedCanGive}
 use Rattle.osm_mirror.proofs.run_laws.SourceLaws.{at_first}
 use Rattle.osm_mirror.proofs.run_laws.SpanRunLaws.{span_run_is, span_refused, nothing_cut}
 use Rattle.osm_mirror.proofs.run.shard_run.write_span.Goals as goal
 
 pub returns-in-Ok-clause-written : goal.returns-in-Ok-clause-written
 returns-in-Ok-clause-written g c all held have holds =
-    span_run_is (λ file. g.F.ReadAt.bytes file.now) (λ file. g.F.ReadAt.fails file.now) (FramedGives g.F.ReadAt.fails g.F.ReadAt.bytes)
+    span_run_is (λ file. g.F.ReadAt.bytes file.now) (λ file. g.F.ReadAt.fails file.now) (FramedCanGive g.F.ReadAt.fails g.F.ReadAt.bytes)
     _ c.unwrap_or.result c.args.span c.unwrap_or.ensures c.args.files.now c.in_ok-inputs.inputs.items c.in_ok-inputs.ensures.inputs
     c.args.run.selection c.args.run.format
     (change_of g.W.Output c.args.out.now c.run_slice.new.out) c.in-Ok.counts c.in-Ok.ensures.written all held have holds
@@ -24,7 +24,7 @@ pub returns-clause-refused : goal.returns-clause-refused
 returns-clause-refused g c =
     let known : Bor g.row.F.Denot → Option (List ℕ) = λ file. g.F.ReadAt.bytes file.now in
     let fails : Bor g.row.F.Denot → Type 0 = λ file. g.F.ReadAt.fails file.now in
-    rw c.fault_of_file.ensures (span_refused known fails (FramedGives g.F.ReadAt.fails g.F.ReadAt.bytes)
+    rw c.fault_of_file.ensures (span_refused known fails (FramedCanGive g.F.ReadAt.fails g.F.ReadAt.bytes)
     _ c.unwrap_or.result c.args.span c.unwrap_or.ensures c.args.files.now c.in_ok-inputs.inputs.items c.as_slice.result.now
     (omega (arith, ap length c.as_slice.ensures.value, c.in_ok-inputs.ensures.parts))
     c.in_ok-inputs.ensures.inputs c.args.run.selection c.args.run.format
