@@ -6,7 +6,7 @@ ghost use Rattle.osm_files.specs.Recorded.{given_by};
 ghost use Rattle.osm_files.specs.Spell.{spell};
 ghost use Rattle.osm_files.specs.declared.format.Format.TheVariants as format;
 ghost use Rattle.osm_mirror.specs.run.Merge.{GivesSorted};
-ghost use Rattle.osm_mirror.specs.run.Run.{union_of};
+ghost use Rattle.osm_mirror.specs.run.Job.{union_of};
 
 use osm_files::{Fault, Format, Recorded, VecOut};
 use osm_mirror::run_merge;

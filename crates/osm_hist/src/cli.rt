@@ -34,7 +34,7 @@ pub trait Host: Files<File = File> + Clock + AllocGlobal {}
 
 impl<R: Files<File = File> + Clock + AllocGlobal> Host for R {}
 
-/// The arguments of a run without arguments: standard input is merged to standard output.
+/// The arguments of a job without arguments: standard input is merged to standard output.
 const NO_ARGS: [&str; 4] = ["merge", "--output", STANDARD, STANDARD];
 
 /// Runs one command and returns the exit status.
@@ -42,7 +42,7 @@ const NO_ARGS: [&str; 4] = ["merge", "--output", STANDARD, STANDARD];
 /// `rt` is the runtime; the files are in its folder. `words` are the arguments after the program's name. `input` is
 /// standard input, `out` is standard output, and `err` is standard error. With no arguments, `input` is merged to
 /// `out`. Help, the version, the lines of a check and the replies to a plan's events go to `out`, too. The reports
-/// during a run and the line of a refusal go to `err`.
+/// during a job and the line of a refusal go to `err`.
 ///
 /// The status is 0 for success and help. It is 1 if a file, memory or `out` fails. It is 2 for a usage error: a mistake
 /// in the arguments, in a list of files or in a plan.

@@ -1,12 +1,12 @@
 mod SourceLaws
-mod RunLaws
+mod JobLaws
 mod KnownLaws
 mod ObjectLaws
 mod TallyLaws
 mod CheckLaws
 mod UnionOfLaws
 mod SortedRunLaws
-mod FilesRunLaws
+mod FilesJobLaws
 mod FilesRefusalLaws
 mod FilesGoodLaws
 mod WayLaws
@@ -22,5 +22,5 @@ mod ProbeLaws
 mod ShardPartLaws
 mod FilePartLaws
 mod ShardSpanLaws
-mod SpanRunLaws
-mod ShardRunLaws
+mod SpanJobLaws
+mod ShardJobLaws

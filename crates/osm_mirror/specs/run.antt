@@ -1,9 +1,9 @@
-pub mod Run
+pub mod Job
 pub mod Merge
-pub mod SliceRun
+pub mod SliceJob
 pub mod SourceRest
 pub mod Given
-pub mod SelectedRun
+pub mod SelectedJob
 pub mod Command
 pub mod KnownInputs
 pub mod Tally
@@ -12,7 +12,7 @@ pub mod SortedRuns
 pub mod Slices
 pub mod CutOffset
 pub mod Shards
-pub mod FilesRun
+pub mod FilesJob
 pub mod Request
 pub mod FilesRefusal
 pub mod Bounds
@@ -20,5 +20,5 @@ pub mod LinesFrom
 pub mod Probes
 pub mod ShardSpan
 pub mod ShardPart
-pub mod ShardRun
+pub mod ShardJob
 pub mod ShardRefusal

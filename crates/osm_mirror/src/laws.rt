@@ -1,17 +1,17 @@
 //! Laws of merges, fleets, plans, files that are split, and inputs that report their bytes. Each is the `ensures`
 //! clause of a function with an empty body, which runs no code.
 //!
-//! The contracts of the runs are about some bytes that the inputs can give. By the last five laws they are about the
+//! The contracts of the jobs are about some bytes that the inputs can give. By the last five laws they are about the
 //! bytes that the inputs report beforehand.
 ghost use Rattle.osm_mirror.specs.fleet.FleetLaws.{LatestMirrorsAgree, FullMirrorsAgree};
 ghost use Rattle.osm_mirror.specs.fleet.Merges.{MergesOfTheSameFiles};
 ghost use Rattle.osm_mirror.specs.fleet.PlanLaws.{OnePlan, FaultySpellsNothing};
-ghost use Rattle.osm_mirror.specs.run.KnownInputs.{KnownIsGiven, MergesOfKnown, RunsOfKnown};
-ghost use Rattle.osm_mirror.specs.run.KnownInputs.{MergesWriteASet, RunsWriteASet};
-ghost use Rattle.osm_mirror.specs.run.KnownInputs.{RefusedMergesHaveBegun, RefusedRunsHaveBegun};
-ghost use Rattle.osm_mirror.specs.run.ShardRun.{ShardRunsWriteTheRun};
-ghost use Rattle.osm_mirror.specs.run.Shards.{PartsHoldTheFile, ShardsWriteTheRun};
-ghost use Rattle.osm_mirror.specs.run.Slices.{SlicesHoldTheFile, SlicesWriteTheRun};
+ghost use Rattle.osm_mirror.specs.run.KnownInputs.{KnownIsGiven, MergesOfKnown, JobsOfKnown};
+ghost use Rattle.osm_mirror.specs.run.KnownInputs.{MergesWriteASet, JobsWriteASet};
+ghost use Rattle.osm_mirror.specs.run.KnownInputs.{RefusedMergesHaveBegun, RefusedJobsHaveBegun};
+ghost use Rattle.osm_mirror.specs.run.ShardJob.{ShardJobsWriteTheJob};
+ghost use Rattle.osm_mirror.specs.run.Shards.{PartsHoldTheFile, ShardsWriteTheJob};
+ghost use Rattle.osm_mirror.specs.run.Slices.{SlicesHoldTheFile, SlicesWriteTheJob};
 ghost use Rattle.osm_mirror.specs.run.SortedRuns.{SortedRunsHoldTheFile, SortedRunsWriteTheFile};
 
 use osm_files::{Input, Output};
@@ -39,7 +39,7 @@ pub fn sorted_runs_hold_the_file()
     ensures { SortedRunsHoldTheFile }
 {}
 
-/// A run over a file in any order writes the same bytes as a run over the files into which that file is split.
+/// A job over a file in any order writes the same bytes as a job over the files into which that file is split.
 pub fn sorted_runs_write_the_file()
     ensures { SortedRunsWriteTheFile }
 {}
@@ -50,10 +50,10 @@ pub fn slices_hold_the_file()
     ensures { SlicesHoldTheFile }
 {}
 
-/// The runs over the slices of the inputs' sets, one run for each span, write the same bytes as one run over the
+/// The jobs over the slices of the inputs' sets, one job for each span, write the same bytes as one job over the
 /// inputs.
-pub fn slices_write_the_run()
-    ensures { SlicesWriteTheRun }
+pub fn slices_write_the_job()
+    ensures { SlicesWriteTheJob }
 {}
 
 /// If the parts of an OPL file between offsets are sorted files, each within its span, the file is sorted, and each
@@ -62,9 +62,9 @@ pub fn parts_hold_the_file()
     ensures { PartsHoldTheFile }
 {}
 
-/// The runs over the slices of several files, one run for each span, write the same bytes as one run over the files.
-pub fn shards_write_the_run()
-    ensures { ShardsWriteTheRun }
+/// The jobs over the slices of several files, one job for each span, write the same bytes as one job over the files.
+pub fn shards_write_the_job()
+    ensures { ShardsWriteTheJob }
 {}
 
 /// A text spells at most one plan.
@@ -77,9 +77,9 @@ pub fn faulty_spells_nothing()
     ensures { FaultySpellsNothing }
 {}
 
-/// The runs for all shards of an output write, in sequence, the same bytes as one run over the files.
-pub fn shard_runs_write_the_run()
-    ensures { ShardRunsWriteTheRun }
+/// The jobs for all shards of an output write, in sequence, the same bytes as one job over the files.
+pub fn shard_jobs_write_the_job()
+    ensures { ShardJobsWriteTheJob }
 {}
 
 /// Inputs that report their bytes can give nothing else. So a property of some bytes that they can give is a property
@@ -95,19 +95,19 @@ pub fn merges_of_known<R: Input, W: Output>(_inputs: &[R], _out: &W)
 {}
 
 /// The clauses `written` and `refused` of [`run_selected`](crate::run_selected) hold of the bytes that the inputs
-/// report. If the run succeeds, each input that reports its bytes is a file, and sorted if it is read as `Sorted`.
-pub fn runs_of_known<R: Input, W: Output>(_inputs: &[R], _out: &W)
-    ensures { RunsOfKnown R.can_give W.Output }
+/// report. If the job succeeds, each input that reports its bytes is a file, and sorted if it is read as `Sorted`.
+pub fn jobs_of_known<R: Input, W: Output>(_inputs: &[R], _out: &W)
+    ensures { JobsOfKnown R.can_give W.Output }
 {}
 
-/// A merge that succeeds, or a run, wrote the file of a set, whatever its inputs report.
-pub fn runs_write_a_set<W: Output>(_out: &W)
+/// A merge that succeeds, or a job, wrote the file of a set, whatever its inputs report.
+pub fn jobs_write_a_set<W: Output>(_out: &W)
     ensures merges { MergesWriteASet W.Output }
-    ensures runs { RunsWriteASet W.Output }
+    ensures runs { JobsWriteASet W.Output }
 {}
 
-/// A merge that is refused, or a run, wrote a front of the file that it would have written.
-pub fn refused_runs_have_begun<W: Output>(_out: &W)
+/// A merge that is refused, or a job, wrote a front of the file that it would have written.
+pub fn refused_jobs_have_begun<W: Output>(_out: &W)
     ensures merges { RefusedMergesHaveBegun W.Output }
-    ensures runs { RefusedRunsHaveBegun W.Output }
+    ensures runs { RefusedJobsHaveBegun W.Output }
 {}

@@ -1,4 +1,4 @@
-//! The runs over whole files of OpenStreetMap histories, and mirrors that take and pass such files.
+//! The jobs over whole files of OpenStreetMap histories, and mirrors that take and pass such files.
 #![tactic(auto)]
 
 mod fleet;
@@ -14,15 +14,15 @@ pub use osm_merge::{Counts, NoProgress, Object, Outside, Progress, Relation, Sel
 pub use osm_model::{Kind, Memory, Version};
 pub use report::{
     BytesRead, CUT, CheckedFile, CheckedJson, Content, Conversion, Escaped, EscapedBytes,
-    EscapedOut, Explanation, FaultyLine, JsonText, Quoted, REASONS, RefusedJson, RunSummary,
-    RunTally, content_of, fault_text, is_report_due,
+    EscapedOut, Explanation, FaultyLine, JobSummary, JobTally, JsonText, Quoted, REASONS,
+    RefusedJson, content_of, fault_text, is_report_due,
 };
 pub use run::{
-    CheckReport, Checked, Command, FileEnd, FileRequest, FilesRun, InputFile, NamesFault, Order,
-    ReadAs, RequestFault, RunFile, Shard, ShardRun, Slice, SliceFile, Tally, cut_offset,
-    read_moment, read_names, read_retried, run_apply, run_check, run_check_sorted, run_files,
-    run_merge, run_period_filter, run_selected, run_shard, run_slice, run_sort, run_tally,
-    run_tally_sorted, run_time_filter, write_retried,
+    CheckReport, Checked, Command, FileEnd, FileRequest, FilesJob, InputFile, JobFile, NamesFault,
+    Order, ReadAs, RequestFault, Shard, ShardJob, Slice, SliceFile, Tally, cut_offset, read_moment,
+    read_names, read_retried, run_apply, run_check, run_check_sorted, run_files, run_merge,
+    run_period_filter, run_selected, run_shard, run_slice, run_sort, run_tally, run_tally_sorted,
+    run_time_filter, write_retried,
 };
 
 #[cfg(test)]

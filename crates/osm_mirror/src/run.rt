@@ -1,19 +1,19 @@
-//! The one run over files, which writes the selection of the union of their sets as one file. Its modules are its
-//! inputs, the runs of the commands, slices and shards, and the check of a file.
+//! The one job over files, which writes the selection of the union of their sets as one file. Its modules are its
+//! inputs, the jobs of the commands, slices and shards, and the check of a file.
 ghost use Rattle.std.specs.Prelude.{IfOk, IfErr, OnOk};
 ghost use Rattle.osm_files.specs.Output.{IsGoodThroughout};
 ghost use Rattle.osm_files.specs.Change.{change_of};
 ghost use Rattle.osm_merge.specs.Giving.{SomeInputsGive};
 ghost use Rattle.osm_merge.specs.Merged.{Grows};
 ghost use Rattle.osm_mirror.specs.run.Given.{InputFileCanGive};
-ghost use Rattle.osm_mirror.specs.run.SelectedRun.{IsRun, RefusesRun};
+ghost use Rattle.osm_mirror.specs.run.SelectedJob.{IsJob, RefusesJob};
 
 mod any_order;
 mod bounds;
 mod check;
 mod cut;
 mod file_way;
-mod files_run;
+mod files_job;
 mod files_turn;
 mod input;
 mod lines_from;
@@ -23,8 +23,8 @@ mod probe;
 mod request;
 mod retried;
 mod shard;
+mod shard_job;
 mod shard_part;
-mod shard_run;
 mod slice;
 mod source;
 mod tally;
@@ -33,7 +33,7 @@ use crate::run::source::open_inputs;
 pub use any_order::{run_apply, run_period_filter, run_sort, run_time_filter};
 pub use check::{CheckReport, Checked, run_check, run_check_sorted, run_tally, run_tally_sorted};
 pub use cut::cut_offset;
-pub use files_run::{FilesRun, Order, RunFile, run_files};
+pub use files_job::{FilesJob, JobFile, Order, run_files};
 pub use input::{InputFile, ReadAs};
 pub use merge::run_merge;
 pub use names::{NamesFault, read_names};
@@ -42,7 +42,7 @@ use osm_merge::{Counts, Progress, Selection, merge_selected};
 pub use request::{Command, FileEnd, FileRequest, RequestFault, read_moment};
 pub use retried::{read_retried, write_retried};
 pub use shard::Shard;
-pub use shard_run::{ShardRun, run_shard};
+pub use shard_job::{ShardJob, run_shard};
 pub use slice::{Slice, SliceFile, run_slice};
 use std::alloc::Global;
 pub use tally::Tally;
@@ -54,7 +54,7 @@ pub use tally::Tally;
 /// only the versions within its span count; a whole file is read only up to the span's upper bound.
 ///
 /// Each input of any order is read to its end before anything is written. The others are read in parallel, one key at a
-/// time. `progress` observes the run, and changes nothing.
+/// time. `progress` observes the job, and changes nothing.
 ///
 /// # Errors
 ///
@@ -73,9 +73,9 @@ pub fn run_selected<R: Input + Drop, W: Output, P: Progress>(
     progress: &mut P,
 ) -> Result<Counts, Fault>
     ensures written { IfOk result (λ counts. SomeInputsGive (InputFileCanGive R.can_give) inputs.items (λ all.
-        IsRun selection all format (change_of W.Output out.old out.new) counts)) }
+        IsJob selection all format (change_of W.Output out.old out.new) counts)) }
     ensures refused { IfErr result (λ fault. SomeInputsGive (InputFileCanGive R.can_give) inputs.items (λ all.
-        RefusesRun W.Output selection all format out.old out.new fault)) }
+        RefusesJob W.Output selection all format out.old out.new fault)) }
     ensures kept { Grows (change_of W.Output out.old out.new) }
     ensures good { OnOk result (IsGoodThroughout (change_of W.Output out.old out.new)) }
 {

@@ -1,6 +1,6 @@
-//! Reports on standard error during a run and after it.
+//! Reports on standard error during a job and after it.
 use super::input::Watch;
-use osm_mirror::{BytesRead, Counts, Progress, Relation, RunTally, Version, is_report_due};
+use osm_mirror::{BytesRead, Counts, JobTally, Progress, Relation, Version, is_report_due};
 use std::cell::{Cell, RefCell};
 use std::fmt::Display;
 use std::io::{IsTerminal, Write};
@@ -9,21 +9,21 @@ use std::time::{Clock, Duration};
 /// Moves a terminal to the start of its line, and clears the line.
 const CLEAR_LINE: &str = "\r\x1b[K";
 
-/// Reports during a run. On a terminal a report overwrites the one before, at most once in half a second. Elsewhere
+/// Reports during a job. On a terminal a report overwrites the one before, at most once in half a second. Elsewhere
 /// each report is a line, at most once a minute.
 #[derive(Drop)]
 pub(super) struct Meter<'a, C, E> {
     clock: &'a C,
     err: RefCell<&'a mut E>,
-    /// Whether reports are wanted during the run.
+    /// Whether reports are wanted during the job.
     is_wanted: bool,
     is_terminal: bool,
     start: Duration,
     last: Cell<Duration>,
-    /// The number of bytes that the run read.
+    /// The number of bytes that the job read.
     bytes: Cell<u64>,
-    /// What the run wrote.
-    pub(super) tally: Cell<RunTally>,
+    /// What the job wrote.
+    pub(super) tally: Cell<JobTally>,
     /// The number of the input whose read failed last.
     failed: Cell<Option<usize>>,
     /// The size of all input files in bytes, if it is known.
@@ -31,7 +31,7 @@ pub(super) struct Meter<'a, C, E> {
 }
 
 impl<'a, C: Clock, E: Write + IsTerminal> Meter<'a, C, E> {
-    /// A meter of a run that begins now.
+    /// A meter of a job that begins now.
     pub(super) fn new(clock: &'a C, err: &'a mut E, is_wanted: bool) -> Meter<'a, C, E> {
         let start = now(clock);
         let is_terminal = err.is_terminal();
@@ -43,7 +43,7 @@ impl<'a, C: Clock, E: Write + IsTerminal> Meter<'a, C, E> {
             start,
             last: Cell::new(start),
             bytes: Cell::new(0),
-            tally: Cell::new(RunTally::new()),
+            tally: Cell::new(JobTally::new()),
             failed: Cell::new(None),
             size: Cell::new(None),
         }
@@ -58,7 +58,7 @@ impl<'a, C: Clock, E: Write + IsTerminal> Meter<'a, C, E> {
         }
     }
 
-    /// Ends the reports. If the run wasn't refused, a last report has its counts.
+    /// Ends the reports. If the job wasn't refused, a last report has its counts.
     pub(super) fn end(&self, counts: Option<&Counts>) {
         if !self.is_wanted {
             return;
@@ -76,17 +76,17 @@ impl<'a, C: Clock, E: Write + IsTerminal> Meter<'a, C, E> {
         self.write("", line, "\n");
     }
 
-    /// The time since the run began, in milliseconds.
+    /// The time since the job began, in milliseconds.
     pub(super) fn milliseconds(&self) -> u128 {
         now(self.clock).saturating_sub(self.start).as_millis()
     }
 }
 
-/// If a run begins anew, its bytes and versions count anew.
+/// If a job begins anew, its bytes and versions count anew.
 impl<'m, 'a, C, E> Progress for &'m Meter<'a, C, E> {
     fn begin(&mut self) {
         self.bytes.set(0);
-        self.tally.set(RunTally::new());
+        self.tally.set(JobTally::new());
     }
 
     #[inline(always)]
@@ -105,7 +105,7 @@ impl<'m, 'a, C, E> Progress for &'m Meter<'a, C, E> {
 }
 
 impl<'m, 'a, C: Clock, E: Write + IsTerminal> Watch for &'m Meter<'a, C, E> {
-    /// Adds `count` to the bytes that the run read, and reports if the interval has passed.
+    /// Adds `count` to the bytes that the job read, and reports if the interval has passed.
     fn count(&self, count: usize) {
         if !self.is_wanted {
             return;

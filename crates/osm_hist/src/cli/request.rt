@@ -6,14 +6,14 @@ use super::target::{STANDARD, Target};
 use super::{Host, Refusal};
 use clap::ArgMatches;
 use osm_files::Format;
-use osm_mirror::{Command, FileEnd, FileRequest, FilesRun, Shard, read_names};
+use osm_mirror::{Command, FileEnd, FileRequest, FilesJob, Shard, read_names};
 use std::alloc::Global;
 use std::io::Read;
 
 /// The request of a command over files.
 #[derive(Drop)]
 pub(super) struct Request<'a> {
-    /// The run that makes one file from the files, or none if they are checked.
+    /// The job that makes one file from the files, or none if they are checked.
     pub(super) run: Option<FileRun<'a>>,
     /// The files. If a list has their names, there are none until the list is read.
     pub(super) files: InputFiles<'a>,
@@ -21,7 +21,7 @@ pub(super) struct Request<'a> {
     pub(super) list: Option<&'a str>,
     /// Whether each file has to be sorted.
     pub(super) sorted: bool,
-    /// Whether a line on standard error has the tally of each file that is checked, or the work of a run.
+    /// Whether a line on standard error has the tally of each file that is checked, or the work of a job.
     pub(super) summary: bool,
     /// Whether a check prints objects of JSON.
     pub(super) json: bool,
@@ -97,13 +97,13 @@ fn refuse_twice<'a>(names: &[&str], is_used: bool) -> Result<(), Refusal<'a>> {
     Ok(())
 }
 
-/// A run that makes one file from files.
+/// A job that makes one file from files.
 #[derive(Drop)]
 pub(super) struct FileRun<'a> {
     pub(super) command: Command,
     pub(super) output: &'a str,
-    /// The run: the versions that are written, the order of the files and the format of the output.
-    pub(super) run: FilesRun,
+    /// The job: the versions that are written, the order of the files and the format of the output.
+    pub(super) run: FilesJob,
     /// The shard of the output that is written, or none if all of it is written.
     pub(super) shard: Option<Shard>,
     /// Whether the output is synced to the disk before it is renamed.
@@ -113,7 +113,7 @@ pub(super) struct FileRun<'a> {
 }
 
 impl<'a> FileRun<'a> {
-    /// The run for which the arguments of the command `name` ask, or none if the command makes no file.
+    /// The job for which the arguments of the command `name` ask, or none if the command makes no file.
     fn of_matches(name: &str, args: &ArgMatches<'a>) -> Result<Option<FileRun<'a>>, Refusal<'a>> {
         let Some(command) = Command::named(name) else {
             return Ok(None);

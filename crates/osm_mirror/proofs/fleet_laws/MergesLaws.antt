@@ -18,7 +18,7 @@ use Rattle.osm_files.specs.Spell.{spell}
 use Rattle.osm_files.specs.SpellLaws.{AreVersions}
 use Rattle.osm_files.proofs.SpellLaws.{held_are_versions, held_is_one_set, spelled_is_held, are_versions, unions_are_versions}
 use Rattle.osm_merge.proofs.UnionAllLaws.{some_has}
-use Rattle.osm_mirror.specs.run.Run.{union_of}
+use Rattle.osm_mirror.specs.run.Job.{union_of}
 use Rattle.osm_mirror.specs.fleet.Merges.{Inputs, none, file, merged, files_of, Hold, MergesOfTheSameFiles}
 
 -- ---- the members of the union of the sets

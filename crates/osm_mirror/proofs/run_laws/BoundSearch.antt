@@ -12,7 +12,7 @@ use Rattle.osm_mirror.specs.run.Probes.{Ascend, is_above}
 use Rattle.osm_mirror.proofs.run_laws.BoundLaws.{lt, AllRise, all_rise, Searched, search_first, search_next, search_found, search_ends}
 use Rattle.osm_mirror.proofs.run_laws.BoundLaws.{next_below}
 use Rattle.osm_mirror.proofs.run_laws.BoundLaws.{IsLast, weight_before}
-use Rattle.osm_mirror.proofs.run_laws.FilesRunLaws.{take_more}
+use Rattle.osm_mirror.proofs.run_laws.FilesJobLaws.{take_more}
 
 -- a list at an index
 split_at : {X : Type 0} (xs : List X) (k : ℕ) (x : X) → k < length xs → x ≡ get_or xs k x → xs ≡ take k xs ++ x ∷ drop (k + 1) xs

@@ -33,27 +33,27 @@ use Rattle.osm_merge.specs.Giving.{AllGive, SomeInputsGive}
 use Rattle.osm_merge.specs.Merged as merged
 use Rattle.osm_merge.specs.Selected.{selection_of}
 use Rattle.osm_mirror.specs.declared.run.file_way.FileWay.{FileWay}
-use Rattle.osm_mirror.specs.declared.run.files_run.FilesRun.{FilesRun}
-use Rattle.osm_mirror.specs.declared.run.files_run.RunFile.{RunFile}
-use Rattle.osm_mirror.specs.declared.run.files_run.RunFile.TheVariants.{File, Stream}
-use Rattle.osm_mirror.specs.declared.run.files_run.Order.{Order}
-use Rattle.osm_mirror.specs.declared.run.files_run.Order.TheVariants.{Sorted, Any}
+use Rattle.osm_mirror.specs.declared.run.files_job.FilesJob.{FilesJob}
+use Rattle.osm_mirror.specs.declared.run.files_job.JobFile.{JobFile}
+use Rattle.osm_mirror.specs.declared.run.files_job.JobFile.TheVariants.{File, Stream}
+use Rattle.osm_mirror.specs.declared.run.files_job.Order.{Order}
+use Rattle.osm_mirror.specs.declared.run.files_job.Order.TheVariants.{Sorted, Any}
 use Rattle.osm_mirror.specs.declared.run.input.InputFile.{InputFile}
 use Rattle.osm_mirror.specs.declared.run.input.ReadAs.{ReadAs}
 use Rattle.osm_mirror.specs.run.FilesRefusal.{AreSettled, IsFaultOfBytes, IsFaultOf, IsFaultAmong, AreRefused, IsGood, IsCutIfGood}
 use Rattle.osm_mirror.specs.run.FilesRefusal.{IsOutputFault}
 use Rattle.osm_mirror.specs.run.FilesRefusal.{IsFaultInWays, RefusesTurn}
-use Rattle.osm_mirror.specs.run.FilesRun.{read_as_of, HoldsAs, IsAsRequired, IsWayOf, FitsBytes, FileFits, FilesFit, OpensRun, OpensFile}
-use Rattle.osm_mirror.specs.run.FilesRun.{OpensFiles, fault_in_files}
+use Rattle.osm_mirror.specs.run.FilesJob.{read_as_of, HoldsAs, IsAsRequired, IsWayOf, FitsBytes, FileFits, FilesFit, OpensRun, OpensFile}
+use Rattle.osm_mirror.specs.run.FilesJob.{OpensFiles, fault_in_files}
 use Rattle.osm_mirror.specs.run.Given.{InputFileCanGive, GivesAs, GivesFile, IsFileAs, source_of, sources, IsRead}
 use Rattle.osm_mirror.specs.run.Merge.{GivesSorted}
-use Rattle.osm_mirror.specs.run.Run.{union_of}
-use Rattle.osm_mirror.specs.run.SelectedRun.{RefusesRun, IsRunRefused}
+use Rattle.osm_mirror.specs.run.Job.{union_of}
+use Rattle.osm_mirror.specs.run.SelectedJob.{RefusesJob, IsJobRefused}
 use Rattle.osm_mirror.specs.run.SortedRuns.{SortedRunsHoldTheFile}
 use Rattle.osm_mirror.proofs.run_laws.FilesRefusalLaws.{SomeRefused, refused_at, unread_refused, fault_found, output_found, memory_found}
 use Rattle.osm_mirror.proofs.run_laws.FilesRefusalLaws.{Found}
 use Rattle.osm_mirror.proofs.run_laws.FilesRefusalLaws.{stream_gave}
-use Rattle.osm_mirror.proofs.run_laws.FilesRunLaws.{cut, as_pairs, as_given, as_any, pairwise_length}
+use Rattle.osm_mirror.proofs.run_laws.FilesJobLaws.{cut, as_pairs, as_given, as_any, pairwise_length}
 use Rattle.osm_mirror.proofs.run_laws.SourceLaws as source_laws
 use Rattle.osm_mirror.proofs.run_laws.UnionOfLaws.{union_of_one, union_of_front}
 
@@ -179,7 +179,7 @@ module _ {F R I : Type 0} (fails : F → Type 0) (bytes : F → Option (List ℕ
             (law all (map (λ run. run_bytes run all) way.runs.items) accepted.sets (omega (arith, short, long)) split accepted.hold) holds;
       }
 
-  file_accepted : (file : RunFile F R) (way : FileWay) (inputs : List (InputFile I)) (given : List (ReadAs × InputRest)) (held :
+  file_accepted : (file : JobFile F R) (way : FileWay) (inputs : List (InputFile I)) (given : List (ReadAs × InputRest)) (held :
       VersionSet)
       → IsGood fails bytes can order file held → way.may_be_split ≡ false → FileFits bytes order file way
       → OpensFile fails bytes can gives file way inputs → AllGive (InputFileCanGive gives) inputs given → Accepted given held
@@ -193,7 +193,7 @@ module _ {F R I : Type 0} (fails : F → Type 0) (bytes : F → Option (List ℕ
       one_input order gave.c held given gave.only (given_as_file order gave.c held (good gave.c gave.gave))
 
   -- The inputs of good files are files that hold the files' sets.
-  pub files_accepted : (files : List (RunFile F R)) (ways : List FileWay) (inputs : List (InputFile I)) (given : List (ReadAs × InputRest))
+  pub files_accepted : (files : List (JobFile F R)) (ways : List FileWay) (inputs : List (InputFile I)) (given : List (ReadAs × InputRest))
       (held : List VersionSet) → Pairwise (IsGood fails bytes can order) files held → AreSettled ways → FilesFit bytes order files ways
       → OpensFiles fails bytes can gives files ways inputs → AllGive (InputFileCanGive gives) inputs given → Accepted given (union_of held)
   files_accepted [] ways [] [] [] good settled fits opens g = record { sets = []; files = tt; union = refl }
@@ -229,7 +229,7 @@ module _ {F R : Type 0} (fails : F → Type 0) (bytes : F → Option (List ℕ))
   bytes_not_refused Sorted all held fault h (inr long) = let short = h.short in absurd (omega (arith, short, long))
   bytes_not_refused Any all held fault h never = never (held, h)
 
-  good_not_refused : (order : Order) (file : RunFile F R) (held : VersionSet) (fault : Fault) → IsGood fails bytes can order file held
+  good_not_refused : (order : Order) (file : JobFile F R) (held : VersionSet) (fault : Fault) → IsGood fails bytes can order file held
       → IsFaultOf fails bytes can order file fault → ⊥
   good_not_refused order (File f) held fault (never, (all, known, h)) (inl failed) = never failed.0
   good_not_refused order (File f) held fault (never, (all, known, h)) (inr refused) =
@@ -239,44 +239,44 @@ module _ {F R : Type 0} (fails : F → Type 0) (bytes : F → Option (List ℕ))
       let whole = source_laws.as_given input (read_as_of order, c) held (given_as_file order c held (good c gave)) in
       (let f : None ≡ Some (record fault { input = input }) = sym whole.0 ∙ e in cc)
 
-  pub good_at : (order : Order) (files : List (RunFile F R)) (held : List VersionSet) (k : ℕ) (file : RunFile F R)
+  pub good_at : (order : Order) (files : List (JobFile F R)) (held : List VersionSet) (k : ℕ) (file : JobFile F R)
       → Pairwise (IsGood fails bytes can order) files held → slice_get files k ≡ Some file
       → (s : VersionSet) × IsGood fails bytes can order file s
   good_at order [] held k file good e = absurd (let f : None ≡ Some file = e in cc)
   good_at order (x ∷ files) [] k file good e = absurd good
   good_at order (x ∷ files) (s ∷ held) zero file good e =
       let same : x ≡ file = (let f : Some x ≡ Some file = e in cc) in
-      (s, subst (λ (y : RunFile F R). IsGood fails bytes can order y s) same good.0)
+      (s, subst (λ (y : JobFile F R). IsGood fails bytes can order y s) same good.0)
   good_at order (x ∷ files) (s ∷ held) (suc k) file good e = good_at order files held k file good.1 e
 
-  pub none_refused : (order : Order) (files : List (RunFile F R)) (held : List VersionSet) (fault : Fault)
+  pub none_refused : (order : Order) (files : List (JobFile F R)) (held : List VersionSet) (fault : Fault)
       → Pairwise (IsGood fails bytes can order) files held → IsFaultAmong fails bytes can order files fault → ⊥
   none_refused order files held fault good (file, at, refused) =
       let one = good_at order files held fault.input file good at in good_not_refused order file one.0 fault one.1 refused
 
   -- Nothing was written for good files if memory ran out.
-  pub nothing_cut : (run : FilesRun) (files : List (RunFile F R)) (change : Change) (fault : Fault) → Appends change []
-      → AreRefused fails bytes can run.order files fault → IsCutIfGood fails bytes can run files change fault
-  nothing_cut run files change fault nothing (inl memory) held good = record {
+  pub nothing_cut : (job : FilesJob) (files : List (JobFile F R)) (change : Change) (fault : Fault) → Appends change []
+      → AreRefused fails bytes can job.order files fault → IsCutIfGood fails bytes can job files change fault
+  nothing_cut job files change fault nothing (inl memory) held good = record {
     count = 0;
     within = omega arith;
     appended = nothing;
     why =
         inl memory;
   }
-  nothing_cut run files change fault nothing (inr refused) held good = absurd (none_refused run.order files held fault good refused)
+  nothing_cut job files change fault nothing (inr refused) held good = absurd (none_refused job.order files held fault good refused)
 
 -- ---- one turn
 module _ {F R I O : Type 0} (fails : F → Type 0) (bytes : F → Option (List ℕ)) (can : R → InputRest → Type 0)
-    (gives : I → InputRest → Type 0) (output : Ghosts O) (run : FilesRun) (files : List (RunFile F R)) (ways : List FileWay)
-    (inputs : List (InputFile I)) (fits : FilesFit bytes run.order files ways) (opens : OpensFiles fails bytes can gives files ways inputs)
+    (gives : I → InputRest → Type 0) (output : Ghosts O) (job : FilesJob) (files : List (JobFile F R)) (ways : List FileWay)
+    (inputs : List (InputFile I)) (fits : FilesFit bytes job.order files ways) (opens : OpensFiles fails bytes can gives files ways inputs)
     (before after : O) (fault : Fault) (small : fault.place < 2 ^ 64) where
   -- the fault of the inputs as the fault of the files
   abbrev Moved : Fault
   Moved = fault_in_files 0 ways fault.input fault
 
   module _ (given : List (ReadAs × InputRest)) (g : AllGive (InputFileCanGive gives) inputs given) where
-    in_ways : Found fails bytes can gives run.order 0 files ways Moved → IsFaultInWays fails bytes can run.order files ways Moved
+    in_ways : Found fails bytes can gives job.order 0 files ways Moved → IsFaultInWays fails bytes can job.order files ways Moved
     in_ways f =
         let index : f.k ≡ Moved.input = sym (f.input_is ∙ (let same : 0 + f.k ≡ f.k = omega arith in same)) in (
           f.file,
@@ -286,18 +286,18 @@ module _ {F R I O : Type 0} (fails : F → Type 0) (bytes : F → Option (List �
           f.fault_is,
         )
 
-    some_refused : SomeRefused 0 given fault → (Moved ≡ memory_fault) ⊎ IsFaultInWays fails bytes can run.order files ways Moved
+    some_refused : SomeRefused 0 given fault → (Moved ≡ memory_fault) ⊎ IsFaultInWays fails bytes can job.order files ways Moved
     some_refused s =
         let index : fault.input - 0 ≡ fault.input = omega arith in
         let found = subst (λ (k : ℕ). (fault_in_files 0 ways k fault ≡ memory_fault)
-        ⊎ Found fails bytes can gives run.order 0 files ways (fault_in_files 0 ways k fault)) index
-        (fault_found fails bytes can gives run.order files ways inputs given 0 0 fault small fits opens g s) in
+        ⊎ Found fails bytes can gives job.order 0 files ways (fault_in_files 0 ways k fault)) index
+        (fault_found fails bytes can gives job.order files ways inputs given 0 0 fault small fits opens g s) in
         ⊎_elim (λ memory. inl memory) (λ f. inr (in_ways f)) found
 
     of_output : fault.input ≡ length given → Moved ≡ fault_at (length files) fault.place fault.reason
     of_output is =
         let same : 0 + length files ≡ length files = omega arith in
-        output_found fails bytes can gives run.order files ways inputs given 0 fault.input fault is fits opens g
+        output_found fails bytes can gives job.order files ways inputs given 0 fault.input fault is fits opens g
         ∙ ap (λ (n : ℕ). fault_at n fault.place fault.reason) same
 
     why_moved : (spelled : List ℕ) (count : ℕ) (failed : Bool) → WhyCut (length given) spelled count failed fault
@@ -328,12 +328,12 @@ module _ {F R I O : Type 0} (fails : F → Type 0) (bytes : F → Option (List �
     output_why spelled count failed (inr (inr (is, long))) = inr (ap (λ f. f.input) is, inr (ap (λ f. f.reason) is))
 
     abbrev Why : Type 0
-    Why = (Moved ≡ memory_fault) ⊎ IsFaultInWays fails bytes can run.order files ways Moved ⊎ IsOutputFault (length files) Moved
+    Why = (Moved ≡ memory_fault) ⊎ IsFaultInWays fails bytes can job.order files ways Moved ⊎ IsOutputFault (length files) Moved
 
     of_inputs : SomeRefused 0 given fault → Why
     of_inputs s = ⊎_elim (λ memory. inl memory) (λ found. inr (inl found)) (some_refused s)
 
-    turn_why : IsRunRefused output run.selection given run.format before after fault → Why
+    turn_why : IsJobRefused output job.selection given job.format before after fault → Why
     turn_why (inl (memory, same)) = inl (memory_found 0 ways fault.input fault (ap (λ f. f.reason) memory))
     turn_why (inr (inl (unread, same))) = of_inputs (unread_refused 0 given fault unread)
     turn_why (inr (inr (read, inl c))) =
@@ -342,16 +342,16 @@ module _ {F R I O : Type 0} (fails : F → Type 0) (bytes : F → Option (List �
         (why_moved _ c.count (change_of output before after).failed c.why))
     turn_why (inr (inr (read, inr f))) = of_inputs (refused_at 0 given f.place fault f.within f.refusal)
 
-  -- A refused run over the inputs of files is a refused turn.
+  -- A refused job over the inputs of files is a refused turn.
   pub turn_refused : SortedRunsHoldTheFile
-      → SomeInputsGive (InputFileCanGive gives) inputs (λ all. RefusesRun output run.selection all run.format before after fault)
-      → RefusesTurn fails bytes can output run files ways before after Moved
+      → SomeInputsGive (InputFileCanGive gives) inputs (λ all. RefusesJob output job.selection all job.format before after fault)
+      → RefusesTurn fails bytes can output job files ways before after Moved
   turn_refused law (given, g, refused) = record {
     why = turn_why given g refused.why;
     cut = λ settled held good.
-        let a = files_accepted fails bytes can gives run.order law files ways inputs given held good settled fits opens g in
+        let a = files_accepted fails bytes can gives job.order law files ways inputs given held good settled fits opens g in
         subst (λ (s : VersionSet). CutShort (length files) (change_of output before after)
-        (spell run.format (selection_of run.selection s)) Moved) a.union
-        (cut_moved given g (change_of output before after) (spell run.format (selection_of run.selection (union_of a.sets)))
+        (spell job.format (selection_of job.selection s)) Moved) a.union
+        (cut_moved given g (change_of output before after) (spell job.format (selection_of job.selection (union_of a.sets)))
         (refused.cut a.sets a.files));
   }

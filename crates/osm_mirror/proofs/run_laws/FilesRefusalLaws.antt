@@ -33,18 +33,18 @@ use Rattle.osm_files.proofs.SplitLaws.{whole_file}
 use Rattle.osm_merge.specs.Giving.{AllGive}
 use Rattle.osm_merge.specs.ToCome.{rest_at}
 use Rattle.osm_mirror.specs.declared.run.file_way.FileWay.{FileWay}
-use Rattle.osm_mirror.specs.declared.run.files_run.RunFile.{RunFile}
-use Rattle.osm_mirror.specs.declared.run.files_run.RunFile.TheVariants.{File, Stream}
-use Rattle.osm_mirror.specs.declared.run.files_run.Order.{Order}
-use Rattle.osm_mirror.specs.declared.run.files_run.Order.TheVariants.{Sorted, Any}
+use Rattle.osm_mirror.specs.declared.run.files_job.JobFile.{JobFile}
+use Rattle.osm_mirror.specs.declared.run.files_job.JobFile.TheVariants.{File, Stream}
+use Rattle.osm_mirror.specs.declared.run.files_job.Order.{Order}
+use Rattle.osm_mirror.specs.declared.run.files_job.Order.TheVariants.{Sorted, Any}
 use Rattle.osm_mirror.specs.declared.run.input.InputFile.{InputFile}
 use Rattle.osm_mirror.specs.declared.run.input.ReadAs.{ReadAs}
 use Rattle.osm_mirror.specs.declared.run.input.ReadAs.TheVariants as read_as
 use Rattle.osm_mirror.specs.run.FilesRefusal.{IsFaultOfBytes, IsFaultOf, IsFaultInWay, IsFaultInWays, IsSizeFault}
-use Rattle.osm_mirror.specs.run.FilesRun.{read_as_of, IsAsRequired, IsWayOf, FitsBytes, FileFits, FilesFit, OpensRun, OpensFile, OpensFiles}
-use Rattle.osm_mirror.specs.run.FilesRun.{fault_in_run, fault_in_run_or, fault_in_files}
+use Rattle.osm_mirror.specs.run.FilesJob.{read_as_of, IsAsRequired, IsWayOf, FitsBytes, FileFits, FilesFit, OpensRun, OpensFile, OpensFiles}
+use Rattle.osm_mirror.specs.run.FilesJob.{fault_in_run, fault_in_run_or, fault_in_files}
 use Rattle.osm_mirror.specs.run.Given.{InputFileCanGive, source_of, held_source, whole_or_refused, refusal, CannotBeRead, IsUnread, sources}
-use Rattle.osm_mirror.proofs.run_laws.FilesRunLaws.{cut, Cut, as_pairs, as_given}
+use Rattle.osm_mirror.proofs.run_laws.FilesJobLaws.{cut, Cut, as_pairs, as_given}
 
 -- ---- the faults of inputs
 -- one of these inputs is refused with this fault; the inputs are numbered from `number` on
@@ -317,7 +317,7 @@ module _ {F R I : Type 0} (fails : F → Type 0) (bytes : F → Option (List ℕ
       }
 
   -- the inputs of a file are as many as its runs, and each has an order
-  file_ordered : (file : RunFile F R) (way : FileWay) (inputs : List (InputFile I)) (given : List (ReadAs × InputRest))
+  file_ordered : (file : JobFile F R) (way : FileWay) (inputs : List (InputFile I)) (given : List (ReadAs × InputRest))
       → FileFits bytes order file way → OpensFile fails bytes can gives file way inputs → Given inputs given
       → AreOrdered given × (length given ≡ length way.runs.items)
   file_ordered (File f) way inputs given fits opens g =
@@ -330,7 +330,7 @@ module _ {F R I : Type 0} (fails : F → Type 0) (bytes : F → Option (List ℕ
 
   -- ---- the fault of one of a file's inputs
   -- a run of a file, whose input is refused
-  pub record RefusedRun (n : ℕ) (file : RunFile F R) (way : FileWay) (fault : Fault) : Type 0 where
+  pub record RefusedRun (n : ℕ) (file : JobFile F R) (way : FileWay) (fault : Fault) : Type 0 where
     pub j : ℕ
     pub run : SortedRun
     pub input_is : fault.input ≡ n + j
@@ -368,7 +368,7 @@ module _ {F R I : Type 0} (fails : F → Type 0) (bytes : F → Option (List ℕ
       opens.1 g.1
       (subst (λ (k : ℕ). SomeRefused k given fault) next more)
 
-  refused_file : (file : RunFile F R) (way : FileWay) (fault : Fault) (n : ℕ) (inputs : List (InputFile I))
+  refused_file : (file : JobFile F R) (way : FileWay) (fault : Fault) (n : ℕ) (inputs : List (InputFile I))
       (given : List (ReadAs × InputRest)) → FileFits bytes order file way → fault.place < 2 ^ 64
       → OpensFile fails bytes can gives file way inputs → Given inputs given → SomeRefused n given fault → RefusedRun n file way fault
   refused_file (File f) way fault n inputs given fits small opens g s =
@@ -401,16 +401,16 @@ module _ {F R I : Type 0} (fails : F → Type 0) (bytes : F → Option (List ℕ
 
   -- ---- the fault of one of the files' inputs
   -- the fault is that of one of these files; the files are numbered from `number` on
-  pub record Found (number : ℕ) (files : List (RunFile F R)) (ways : List FileWay) (r : Fault) : Type 0 where
+  pub record Found (number : ℕ) (files : List (JobFile F R)) (ways : List FileWay) (r : Fault) : Type 0 where
     pub k : ℕ
     pub input_is : r.input ≡ number + k
-    pub file : RunFile F R
+    pub file : JobFile F R
     pub way : FileWay
     pub file_is : slice_get files k ≡ Some file
     pub way_is : slice_get ways k ≡ Some way
     pub fault_is : IsFaultInWay fails bytes can order file way r
 
-  in_run : (number n : ℕ) (file : RunFile F R) (way : FileWay) (files : List (RunFile F R)) (ways : List FileWay) (fault other : Fault)
+  in_run : (number n : ℕ) (file : JobFile F R) (way : FileWay) (files : List (JobFile F R)) (ways : List FileWay) (fault other : Fault)
       → (run : RefusedRun n file way fault)
       → let r = fault_in_run_or number (slice_get way.runs.items (fault.input - n)) fault other in
       (r ≡ memory_fault) ⊎ Found number (file ∷ files) (way ∷ ways) r
@@ -432,7 +432,7 @@ module _ {F R I : Type 0} (fails : F → Type 0) (bytes : F → Option (List ℕ
       }))
       (at_is number place fault.reason))
 
-  files_ordered : (files : List (RunFile F R)) (ways : List FileWay) (inputs : List (InputFile I)) (given : List (ReadAs × InputRest))
+  files_ordered : (files : List (JobFile F R)) (ways : List FileWay) (inputs : List (InputFile I)) (given : List (ReadAs × InputRest))
       → FilesFit bytes order files ways → OpensFiles fails bytes can gives files ways inputs → Given inputs given → AreOrdered given
   files_ordered [] ways [] [] fits opens g = tt
   files_ordered [] ways [] (x ∷ given) fits opens g = absurd g
@@ -446,7 +446,7 @@ module _ {F R I : Type 0} (fails : F → Type 0) (bytes : F → Option (List ℕ
       subst AreOrdered (sym c.joined) (ordered_both c.before c.after first.0 second)
 
   -- The fault of an input is the fault of its file.
-  pub fault_found : (files : List (RunFile F R)) (ways : List FileWay) (inputs : List (InputFile I)) (given : List (ReadAs × InputRest))
+  pub fault_found : (files : List (JobFile F R)) (ways : List FileWay) (inputs : List (InputFile I)) (given : List (ReadAs × InputRest))
       (number n : ℕ) (fault : Fault) → fault.place < 2 ^ 64 → FilesFit bytes order files ways
       → OpensFiles fails bytes can gives files ways inputs → Given inputs given → SomeRefused n given fault
       → (fault_in_files number ways (fault.input - n) fault ≡ memory_fault)
@@ -492,7 +492,7 @@ module _ {F R I : Type 0} (fails : F → Type 0) (bytes : F → Option (List ℕ
       (some_of_both n c.before c.after fault (subst (λ (xs : List (ReadAs × InputRest)). SomeRefused n xs fault) c.joined s))
 
   -- A fault of the output gets the number of files.
-  pub output_found : (files : List (RunFile F R)) (ways : List FileWay) (inputs : List (InputFile I)) (given : List (ReadAs × InputRest))
+  pub output_found : (files : List (JobFile F R)) (ways : List FileWay) (inputs : List (InputFile I)) (given : List (ReadAs × InputRest))
       (number k : ℕ) (fault : Fault) → k ≡ length given → FilesFit bytes order files ways
       → OpensFiles fails bytes can gives files ways inputs → Given inputs given
       → fault_in_files number ways k fault ≡ fault_at (number + length files) fault.place fault.reason

@@ -18,10 +18,10 @@ use Rattle.osm_merge.specs.Union.{union_given}
 use Rattle.osm_merge.proofs.UnionLaws.{begun_refused, nothing_appended}
 use Rattle.osm_mirror.specs.run.Given.{InputFileCanGive, GivesAs, sources}
 use Rattle.osm_mirror.specs.run.Merge as merge
-use Rattle.osm_mirror.specs.run.Run.{union_of, IsRunBy}
-use Rattle.osm_mirror.specs.run.SelectedRun.{IsRun, RefusesRun}
-use Rattle.osm_mirror.specs.run.KnownInputs.{IsFileIfKnown, KnownIsGiven, HoldsOfKnown, MergesOfKnown, RunsOfKnown}
-use Rattle.osm_mirror.specs.run.KnownInputs.{RefusedMergesHaveBegun, RefusedRunsHaveBegun}
+use Rattle.osm_mirror.specs.run.Job.{union_of, IsJobBy}
+use Rattle.osm_mirror.specs.run.SelectedJob.{IsJob, RefusesJob}
+use Rattle.osm_mirror.specs.run.KnownInputs.{IsFileIfKnown, KnownIsGiven, HoldsOfKnown, MergesOfKnown, JobsOfKnown}
+use Rattle.osm_mirror.specs.run.KnownInputs.{RefusedMergesHaveBegun, RefusedJobsHaveBegun}
 
 module _ {R C : Type 0} (can : R → C → Type 0) where
   -- Inputs that report their bytes give these bytes.
@@ -54,16 +54,16 @@ merges_known can output inputs format before after = record {
   files = λ counts h. each_known can merge.GivesSorted inputs h.0 h.2.held h.1 h.2.files;
 }
 
-pub runs_known : {R O : Type 0} (can : R → InputRest → Type 0) (output : Ghosts O) → RunsOfKnown can output
+pub runs_known : {R O : Type 0} (can : R → InputRest → Type 0) (output : Ghosts O) → JobsOfKnown can output
 runs_known can output selection inputs format before after = record {
-  done = λ counts. holds_of_known (InputFileCanGive can) inputs (λ all. IsRun selection all format (change_of output before after) counts);
-  refused = λ fault. holds_of_known (InputFileCanGive can) inputs (λ all. RefusesRun output selection all format before after fault);
+  done = λ counts. holds_of_known (InputFileCanGive can) inputs (λ all. IsJob selection all format (change_of output before after) counts);
+  refused = λ fault. holds_of_known (InputFileCanGive can) inputs (λ all. RefusesJob output selection all format before after fault);
   files = λ counts h. each_known (InputFileCanGive can) GivesAs inputs h.0 h.2.held h.1 h.2.files;
 }
 
 -- A run that is done wrote the file of a set.
 pub writes_set : {C : Type 0} (Gives : C → VersionSet → Type 0) (choice : VersionSet → VersionSet) (Compared : ℕ → ℕ → ℕ → Type 0)
-    (all : List C) (format : Format) (change : Change) (counts : Counts) → IsRunBy Gives choice Compared all format change counts →
+    (all : List C) (format : Format) (change : Change) (counts : Counts) → IsJobBy Gives choice Compared all format change counts →
     WritesSet format change counts
 writes_set Gives choice Compared all format change counts run =
     record { set = choice (union_of run.held); appended = run.written; written = run.written_count }
@@ -81,7 +81,7 @@ none_begun output set format before after same =
     (record { count = 0; within = omega arith; appended = nothing_appended (output.holds before) })
 
 -- A run that is refused wrote a front of the file of the selection.
-pub runs_begun : {O : Type 0} (output : Ghosts O) → RefusedRunsHaveBegun output
+pub runs_begun : {O : Type 0} (output : Ghosts O) → RefusedJobsHaveBegun output
 runs_begun output selection all format before after fault refused =
     let set = selection_of selection (union_given (sources 0 all)) in
     elim refused.why [

@@ -33,7 +33,7 @@ use Rattle.osm_mirror.specs.run.Probes.{HaveBytes, IsTotal, FindsBy, FindsIn, Fi
 use Rattle.osm_mirror.specs.run.ShardPart.{size_if_opl, IsOplSize}
 use Rattle.osm_mirror.specs.run.ShardRefusal.{IsFileRefusal}
 use Rattle.osm_mirror.proofs.run_laws.SplitLineLaws.{split_lines, split_versions}
-use Rattle.osm_mirror.proofs.run_laws.FilesRunLaws.{cut, known_given, take_more}
+use Rattle.osm_mirror.proofs.run_laws.FilesJobLaws.{cut, known_given, take_more}
 
 -- ---- the first byte of a file
 starts_if : (t : Bool) → start_if (not (not t)) ≡ start_if t

@@ -18,11 +18,11 @@ use Rattle.osm_merge.specs.Union as merged
 use Rattle.osm_merge.proofs.SliceLaws.{Rise, rise}
 use Rattle.osm_mirror.specs.run.CutOffset.{BeginsLines}
 use Rattle.osm_mirror.specs.run.Shards.{parts_from, AreCutsFrom, PartsHoldTheFile, first_set, other_sets, by_span}
-use Rattle.osm_mirror.specs.run.Shards.{ShardsWriteTheRun}
+use Rattle.osm_mirror.specs.run.Shards.{ShardsWriteTheJob}
 use Rattle.osm_mirror.specs.run.Slices.{AreSlicesWithin}
 use Rattle.osm_mirror.proofs.run_laws.SplitLineLaws.{part_ends, part_whole}
 use Rattle.osm_mirror.proofs.run_laws.SlicedFileLaws.{SpelledFrom, no_spans, spelled_more, spelled_last, slices_of_all}
-use Rattle.osm_mirror.proofs.run_laws.SlicedFileLaws.{slices_write_the_run}
+use Rattle.osm_mirror.proofs.run_laws.SlicedFileLaws.{slices_write_the_job}
 use Rattle.osm_mirror.proofs.run_laws.SortedRunLaws.{after_line}
 
 -- ---- runs over the parts of several files
@@ -48,9 +48,9 @@ runs_are sets (span ∷ others) parts h = let first = first_slices sets span oth
     (first.0, runs_are sets others (map other_sets parts) first.1)
 
 -- The parts of a run, one after another, are what the run writes.
-pub shards_write_the_run : ShardsWriteTheRun
-shards_write_the_run selection bounds sets parts up h =
-    slices_write_the_run selection bounds sets (by_span (spans bounds) parts) up (runs_are sets (spans bounds) parts h)
+pub shards_write_the_job : ShardsWriteTheJob
+shards_write_the_job selection bounds sets parts up h =
+    slices_write_the_job selection bounds sets (by_span (spans bounds) parts) up (runs_are sets (spans bounds) parts h)
 
 -- ---- parts of one file
 nothing_spelled : (versions : List VersionData) → IsFile [] versions → versions ≡ []

@@ -28,14 +28,14 @@ use Rattle.osm_merge.specs.Union as merged
 use Rattle.osm_merge.proofs.PieceLaws.{has_within, sets_within_are_slices}
 use Rattle.osm_merge.proofs.SliceLaws.{Rise, rise, IsAtMost, reaches_lower, below_is, not_below, slices_write_the_whole}
 use Rattle.osm_merge.proofs.UnionAllLaws.{in_union_all}
-use Rattle.osm_mirror.specs.run.Run.{union_of}
+use Rattle.osm_mirror.specs.run.Job.{union_of}
 use Rattle.osm_files.specs.declared.format.Format.TheVariants.{Opl}
 use Rattle.osm_files.specs.SortedRun.{IsSplitInto}
 use Rattle.osm_files.specs.Spell.{spell}
 use Rattle.osm_merge.specs.declared.object.Span.{Span}
 use Rattle.osm_merge.specs.declared.selection.Selection.{Selection}
 use Rattle.osm_merge.specs.Selected.{selection_of}
-use Rattle.osm_mirror.specs.run.Slices.{SlicesHoldTheFile, AreSlicesWithin, SlicesWriteTheRun}
+use Rattle.osm_mirror.specs.run.Slices.{SlicesHoldTheFile, AreSlicesWithin, SlicesWriteTheJob}
 use Rattle.osm_mirror.proofs.run_laws.SourceLaws.{members, union_given_is}
 use Rattle.osm_mirror.proofs.fleet_laws.MergesLaws.{in_union_of}
 use Rattle.osm_mirror.proofs.run_laws.SortedRunLaws.{after_line, at_reset}
@@ -210,7 +210,7 @@ module _ (selection : Selection) (sets : List VersionSet) where
       ++ runs_write parts runs h.1 i
 
 -- Runs over the slices write what one run over the files writes.
-pub slices_write_the_run : SlicesWriteTheRun
-slices_write_the_run selection bounds sets runs up sliced =
+pub slices_write_the_job : SlicesWriteTheJob
+slices_write_the_job selection bounds sets runs up sliced =
     ap (λ s. spell Opl (selection_of selection s)) (union_is sets) ∙ slices_write_the_whole selection bounds sets up
     ∙ runs_write selection sets (spans bounds) runs sliced

@@ -23,7 +23,7 @@ use Rattle.osm_files.proofs.SpellLaws.{held_is_one_set}
 use Rattle.osm_merge.specs.Selected.{selection_of}
 use Rattle.osm_merge.specs.ToCome.{VersionsToCome}
 use Rattle.osm_merge.specs.Union as merged
-use Rattle.osm_mirror.specs.run.Run.{union_of}
+use Rattle.osm_mirror.specs.run.Job.{union_of}
 use Rattle.osm_mirror.specs.run.SortedRuns.{SortedRunsHoldTheFile, SortedRunsWriteTheFile}
 use Rattle.osm_mirror.proofs.run_laws.SourceLaws.{members, union_given_is}
 

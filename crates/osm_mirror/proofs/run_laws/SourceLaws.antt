@@ -57,11 +57,11 @@ use Rattle.osm_merge.proofs.SliceSources.{dropped_is_slice, dropped_of_whole, dr
 use Rattle.osm_mirror.specs.declared.run.input.InputFile.{InputFile}
 use Rattle.osm_mirror.specs.declared.run.input.ReadAs.{ReadAs}
 use Rattle.osm_mirror.specs.declared.run.input.ReadAs.TheVariants.{Sorted, Any, Within}
-use Rattle.osm_mirror.specs.declared.run.source.RunSource.{RunSource}
-use Rattle.osm_mirror.specs.declared.run.source.RunSource.TheVariants.{Streamed, Held, Sliced}
-use Rattle.osm_mirror.specs.run.Run.{union_of}
+use Rattle.osm_mirror.specs.declared.run.source.InputSource.{InputSource}
+use Rattle.osm_mirror.specs.declared.run.source.InputSource.TheVariants.{Streamed, Held, Sliced}
+use Rattle.osm_mirror.specs.run.Job.{union_of}
 use Rattle.osm_mirror.specs.run.Merge.{GivesSorted}
-use Rattle.osm_mirror.specs.run.SliceRun.{HasSlice, IsPartRead, given_slice}
+use Rattle.osm_mirror.specs.run.SliceJob.{HasSlice, IsPartRead, given_slice}
 use Rattle.osm_mirror.specs.run.SourceRest.{SourceCanGive, source_one, source_possible}
 use Rattle.osm_mirror.specs.run.Given.{GivesFile, GivesAs, IsFileAs, refusal, whole_or_refused, held_source, source_of, sources}
 use Rattle.osm_mirror.specs.run.Given.{InputFileCanGive}
@@ -407,7 +407,7 @@ pub load_stops : {R : Type 0} (can : R → InputRest → Type 0) (number : ℕ) 
 load_stops can number reader fault h = ((Any, h.0), (refl, h.1), ⊎_elim (λ e. inl e) (λ e. inr (inl e)) h.2)
 
 module _ {R : Type 0} (can : R → InputRest → Type 0) where
-  pub opened_more : (number : ℕ) (files : List (InputFile R)) (opened : List (RunSource R)) (file : InputFile R) (s : RunSource R)
+  pub opened_more : (number : ℕ) (files : List (InputFile R)) (opened : List (InputSource R)) (file : InputFile R) (s : InputSource R)
       → AreOpened can number files opened → IsOpened can (number + length files) file s
       → AreOpened can number (files ++ file ∷ []) (opened ++ s ∷ [])
   opened_more number [] [] file s all one =
@@ -421,7 +421,7 @@ module _ {R : Type 0} (can : R → InputRest → Type 0) where
         one),
   )
 
-  pub opened_many : (number : ℕ) (files : List (InputFile R)) (opened : List (RunSource R)) → AreOpened can number files opened
+  pub opened_many : (number : ℕ) (files : List (InputFile R)) (opened : List (InputSource R)) → AreOpened can number files opened
       → length opened ≡ length files
   opened_many number [] [] all = refl
   opened_many number [] (s ∷ opened) all = absurd all
@@ -429,7 +429,7 @@ module _ {R : Type 0} (can : R → InputRest → Type 0) where
   opened_many number (f ∷ files) (s ∷ opened) all = ap suc (opened_many (number + 1) files opened all.1)
 
   -- for all that the sources can give, the files could give bytes whose sources give the same
-  pub opened_give : (number : ℕ) (files : List (InputFile R)) (opened : List (RunSource R)) (stills : List source.VersionsToCome)
+  pub opened_give : (number : ℕ) (files : List (InputFile R)) (opened : List (InputSource R)) (stills : List source.VersionsToCome)
       → AreOpened can number files opened → AllGive (SourceCanGive can) opened stills
       → (all : List (ReadAs × InputRest)) × AllGive (InputFileCanGive can) files all × (stills ≡ sources number all) × All IsRead all
   opened_give number [] [] [] all g = ([], tt, refl, All-nil IsRead)
@@ -447,7 +447,7 @@ module _ {R : Type 0} (can : R → InputRest → Type 0) where
     give_files = give_one (InputFileCanGive can) (one_of_file one) (λ f. (refl, possible f.reader))
 
     -- a file that can't be opened, after files that were opened
-    pub stops_after : (number : ℕ) (files : List (InputFile R)) (opened : List (RunSource R)) (file : InputFile R)
+    pub stops_after : (number : ℕ) (files : List (InputFile R)) (opened : List (InputSource R)) (file : InputFile R)
         (rest : List (InputFile R)) (fault : Fault)
         → AreOpened can number files opened → GivesOne (InputFileCanGive can file) (λ input. IsUnopened (number + length files) (input ∷ [])
         fault)
@@ -469,7 +469,7 @@ module _ {R : Type 0} (can : R → InputRest → Type 0) where
         (first.0 ∷ others.0, (first.1, others.1), unread_more number first.0 others.0 fault others.2)
 
     -- one of the files can't be opened, after others that were opened
-    pub stop_unread : (ys xs : List (InputFile R)) (y : InputFile R) (items : List (RunSource R)) (n : ℕ) (fault : Fault)
+    pub stop_unread : (ys xs : List (InputFile R)) (y : InputFile R) (items : List (InputSource R)) (n : ℕ) (fault : Fault)
         → AreOpened can 0 ys items → n ≡ length items → map (λ f. f) ys ≡ take (length ys) xs
         → (length ys < length xs) × (y ≡ get_or xs (length ys) y)
         → GivesOne (InputFileCanGive can y) (λ input. IsUnopened n (input ∷ []) fault)
@@ -490,14 +490,14 @@ module _ {R : Type 0} (can : R → InputRest → Type 0) where
     no_memory files fault memory = (map (one_of_file one) files, give_files files, inl memory)
 
   -- One more file was opened.
-  pub push_opened : (ys : List (InputFile R)) (y : InputFile R) (items after : List (RunSource R)) (x : RunSource R) (n : ℕ)
+  pub push_opened : (ys : List (InputFile R)) (y : InputFile R) (items after : List (InputSource R)) (x : InputSource R) (n : ℕ)
       → AreOpened can 0 ys items → after ≡ items ++ x ∷ [] → n ≡ length items → IsOpened can n y x → AreOpened can 0 (ys ++ y ∷ []) after
   push_opened ys y items after x n all pushed count one =
       let place : n ≡ 0 + length ys = omega (arith, count, opened_many 0 ys items all) in
-      subst (λ (l : List (RunSource R)). AreOpened can 0 (ys ++ y ∷ []) l) (sym pushed)
+      subst (λ (l : List (InputSource R)). AreOpened can 0 (ys ++ y ∷ []) l) (sym pushed)
       (opened_more 0 ys items y x all (subst (λ (k : ℕ). IsOpened can k y x) place one))
 
   -- Once all files were opened, each source is one of them.
-  pub opened_all : (ys xs : List (InputFile R)) (items : List (RunSource R)) → AreOpened can 0 ys items → map (λ y. y) ys ≡ xs
+  pub opened_all : (ys xs : List (InputFile R)) (items : List (InputSource R)) → AreOpened can 0 ys items → map (λ y. y) ys ≡ xs
       → AreOpened can 0 xs items
   opened_all ys xs items all is = subst (λ (l : List (InputFile R)). AreOpened can 0 l items) (sym (map_itself ys) ∙ is) all

@@ -7,7 +7,7 @@ use Rattle.osm_model.specs.VersionSet.{VersionSet}
 use Rattle.osm_model.specs.Sets.{contains}
 use Rattle.osm_model.proofs.SetLaws.{same_set}
 use Rattle.osm_model.proofs.VersionLaws.{version_cmp-IsAntisymmetric}
-use Rattle.osm_mirror.specs.run.Run.{union_of}
+use Rattle.osm_mirror.specs.run.Job.{union_of}
 use Rattle.osm_mirror.proofs.fleet_laws.MergesLaws.{or_false, in_union_of}
 
 equal : (s t : VersionSet) → ((v : VersionData) → contains s v ≡ contains t v) → s ≡ t

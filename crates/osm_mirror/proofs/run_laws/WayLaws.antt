@@ -15,14 +15,14 @@ use Rattle.osm_files.specs.Input.{InputRest}
 use Rattle.osm_files.specs.SortedRun.{IsSplitIntoRuns, run_bytes, whole_run}
 use Rattle.osm_files.proofs.SplitLaws.{whole_file}
 use Rattle.osm_mirror.specs.declared.run.file_way.FileWay.{FileWay}
-use Rattle.osm_mirror.specs.declared.run.files_run.RunFile.{RunFile}
-use Rattle.osm_mirror.specs.declared.run.files_run.RunFile.TheVariants.{File, Stream}
-use Rattle.osm_mirror.specs.declared.run.files_run.Order.{Order}
-use Rattle.osm_mirror.specs.declared.run.files_run.Order.TheVariants.{Sorted, Any}
+use Rattle.osm_mirror.specs.declared.run.files_job.JobFile.{JobFile}
+use Rattle.osm_mirror.specs.declared.run.files_job.JobFile.TheVariants.{File, Stream}
+use Rattle.osm_mirror.specs.declared.run.files_job.Order.{Order}
+use Rattle.osm_mirror.specs.declared.run.files_job.Order.TheVariants.{Sorted, Any}
 use Rattle.osm_mirror.specs.run.FilesRefusal.{IsSizeFault, IsFirstIn, IsFirstOf, IsFaultOfBytes, IsFaultOf, IsRefusedFile, AreRefused}
 use Rattle.osm_mirror.specs.run.FilesRefusal.{AreSettled}
-use Rattle.osm_mirror.specs.run.FilesRun.{IsWhole, IsReadWhole, IsAsRequired, IsWayOf, FitsBytes, FileFits, FilesFit}
-use Rattle.osm_mirror.proofs.run_laws.FilesRunLaws.{take_more, pairwise_length}
+use Rattle.osm_mirror.specs.run.FilesJob.{IsWhole, IsReadWhole, IsAsRequired, IsWayOf, FitsBytes, FileFits, FilesFit}
+use Rattle.osm_mirror.proofs.run_laws.FilesJobLaws.{take_more, pairwise_length}
 
 pub get_slice : {X : Type 0} (xs : List X) (k : ℕ) (x : X) → k < length xs → x ≡ get_or xs k x → slice_get xs k ≡ Some x
 get_slice [] k x low is = absurd (omega (arith, low))
@@ -36,7 +36,7 @@ long_bytes Any all fault long = λ accepted. (let short = accepted.1.short in ab
 
 module _ {F R : Type 0} (fails : F → Type 0) (bytes : F → Option (List ℕ)) (can : R → InputRest → Type 0) (order : Order) where
   -- The refusal of one file is one of all files.
-  pub among_files : (files : List (RunFile F R)) (number : ℕ) (file : RunFile F R) (fault : Fault) → number < length files
+  pub among_files : (files : List (JobFile F R)) (number : ℕ) (file : JobFile F R) (fault : Fault) → number < length files
       → file ≡ get_or files number file → IsRefusedFile fails bytes can order number file fault
       → AreRefused fails bytes can order files fault
   among_files files number file fault low is (inl memory) = inl memory
@@ -55,7 +55,7 @@ module _ {F R : Type 0} (fails : F → Type 0) (bytes : F → Option (List ℕ))
   size_refused f number fault at (inr long) = inr (at, inr (too_long (bytes f.now) fault long))
 
 -- The first version out of order of one of the files.
-pub first_at : {F R : Type 0} (bytes : F → Option (List ℕ)) (files : List (RunFile F R)) (number : ℕ) (file : RunFile F R)
+pub first_at : {F R : Type 0} (bytes : F → Option (List ℕ)) (files : List (JobFile F R)) (number : ℕ) (file : JobFile F R)
     (first : Option ℕ) → slice_get files number ≡ Some file
     → IfSome first (λ place. IsFirstOf bytes files (record { file = number; place = place })) → IfSome first (IsFirstIn bytes file)
 first_at bytes files number file None at known = tt
@@ -158,7 +158,7 @@ written_back n new old same is =
     ap (λ ys. take n (new ++ ys)) (none_left old (length new) (omega (arith, same)))
     ∙ ap (take n) (append-nil new) ∙ take_all n new (omega (arith, same, is))
 
-module _ {F R : Type 0} (bytes : F → Option (List ℕ)) (files : List (RunFile F R)) where
+module _ {F R : Type 0} (bytes : F → Option (List ℕ)) (files : List (JobFile F R)) where
   -- The ways of files after all were split that had to be.
   pub back_fits : (order : Order) (n : ℕ) (new old : List FileWay) → n ≡ length old → order ≡ Any → FilesFit bytes order files old
       → FilesFit bytes Any files new → FilesFit bytes order files (take n (new ++ drop (length new) old))

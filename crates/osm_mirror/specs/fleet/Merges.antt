@@ -5,7 +5,7 @@ use Rattle.osm_model.specs.VersionSet.{VersionSet}
 use Rattle.osm_files.specs.declared.format.Format.{Format}
 use Rattle.osm_files.specs.Held.{HoldsSorted}
 use Rattle.osm_files.specs.Spell.{spell}
-use Rattle.osm_mirror.specs.run.Run.{union_of}
+use Rattle.osm_mirror.specs.run.Job.{union_of}
 
 -- The inputs of a merge, in sequence: each is a file, or the output of another merge of inputs of its own, in any
 -- format.

@@ -15,13 +15,13 @@ use Rattle.osm_files.specs.Sink.{CutShort}
 use Rattle.osm_merge.specs.declared.merge.Counts.{Counts}
 use Rattle.osm_merge.specs.Selected.{snapshot, visible}
 use Rattle.osm_mirror.specs.declared.run.input.ReadAs.TheVariants.{Any}
-use Rattle.osm_mirror.specs.run.Run.{union_of, IsRunBy}
+use Rattle.osm_mirror.specs.run.Job.{union_of, IsJobBy}
 use Rattle.osm_mirror.specs.run.Given.{GivesFile, IsUnread}
 
 -- A command over these inputs, with this change of the output: each input gave a file, and the one spelling of the
 -- choice from the union of their sets was appended. No comparison is counted.
 abbrev pub IsWritten : (VersionSet → VersionSet) → List InputRest → Format → Change → Counts → Type 0
-IsWritten choice = IsRunBy GivesFile choice (λ inputs given compared. compared ≡ 0)
+IsWritten choice = IsJobBy GivesFile choice (λ inputs given compared. compared ≡ 0)
 
 -- Why a command was refused: memory ran out before anything was written; or an input can't be read, and nothing was
 -- written; or all inputs are files, and a front of the one spelling of the choice from the union of their sets was

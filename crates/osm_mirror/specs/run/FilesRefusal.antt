@@ -22,14 +22,14 @@ use Rattle.osm_mirror.specs.declared.run.file_way.FileWay.{FileWay}
 use Rattle.osm_mirror.specs.declared.run.file_way.FilesToSplit.{FilesToSplit}
 use Rattle.osm_mirror.specs.declared.run.file_way.FilesToSplit.TheVariants.{OfFirst, Descending, All}
 use Rattle.osm_mirror.specs.declared.run.file_way.FirstUnsorted.{FirstUnsorted}
-use Rattle.osm_mirror.specs.declared.run.files_run.FilesRun.{FilesRun}
-use Rattle.osm_mirror.specs.declared.run.files_run.RunFile.{RunFile}
-use Rattle.osm_mirror.specs.declared.run.files_run.RunFile.TheVariants.{File, Stream}
-use Rattle.osm_mirror.specs.declared.run.files_run.Order.{Order}
-use Rattle.osm_mirror.specs.declared.run.files_run.Order.TheVariants.{Sorted, Any}
-use Rattle.osm_mirror.specs.run.FilesRun.{HoldsAs, read_as_of}
+use Rattle.osm_mirror.specs.declared.run.files_job.FilesJob.{FilesJob}
+use Rattle.osm_mirror.specs.declared.run.files_job.JobFile.{JobFile}
+use Rattle.osm_mirror.specs.declared.run.files_job.JobFile.TheVariants.{File, Stream}
+use Rattle.osm_mirror.specs.declared.run.files_job.Order.{Order}
+use Rattle.osm_mirror.specs.declared.run.files_job.Order.TheVariants.{Sorted, Any}
+use Rattle.osm_mirror.specs.run.FilesJob.{HoldsAs, read_as_of}
 use Rattle.osm_mirror.specs.run.Given.{GivesAs, source_of}
-use Rattle.osm_mirror.specs.run.Run.{union_of}
+use Rattle.osm_mirror.specs.run.Job.{union_of}
 
 -- The bytes aren't accepted in this order. For bytes that must be sorted the fault is their first one, unless they are
 -- too many.
@@ -72,17 +72,17 @@ IsSizeFault Fails known fault =
 
 module _ {F R : Type 0} (bytes : F → Option (List ℕ)) where
   -- the version at this place is the first one of the file that is out of order, if the file is accepted in any order
-  abbrev pub IsFirstIn : RunFile F R → ℕ → Type 0
+  abbrev pub IsFirstIn : JobFile F R → ℕ → Type 0
   IsFirstIn (File f) place = IfSome (bytes f.now) (λ all. IsAccepted all → IsFirstUnsorted all place)
   IsFirstIn (Stream r) place = ⊥
 
   -- a version is known to be the first one of its file that is out of order
-  abbrev pub IsFirstOf : List (RunFile F R) → FirstUnsorted → Type 0
+  abbrev pub IsFirstOf : List (JobFile F R) → FirstUnsorted → Type 0
   IsFirstOf files first =
-      (file : RunFile F R) → slice_get files first.file ≡ Some file → IsFirstIn file first.place
+      (file : JobFile F R) → slice_get files first.file ≡ Some file → IsFirstIn file first.place
 
   -- if the file of one version is to be split, this is the first one of its file that is out of order
-  abbrev pub IsFirstKnown : List (RunFile F R) → FilesToSplit → Type 0
+  abbrev pub IsFirstKnown : List (JobFile F R) → FilesToSplit → Type 0
   IsFirstKnown files (OfFirst first) = IsFirstOf files first
   IsFirstKnown files Descending = Unit {0}
   IsFirstKnown files All = Unit {0}
@@ -90,60 +90,60 @@ module _ {F R : Type 0} (bytes : F → Option (List ℕ)) where
 module _ {F R : Type 0} (fails : F → Type 0) (bytes : F → Option (List ℕ)) (can : R → InputRest → Type 0) where
   -- The fault is one of this file, which must have this order: a read failed; or the bytes, if they are known, aren't
   -- accepted. A stream gave something that is refused with this reason at this place.
-  abbrev pub IsFaultOf : Order → RunFile F R → Fault → Type 0
+  abbrev pub IsFaultOf : Order → JobFile F R → Fault → Type 0
   IsFaultOf order (File f) fault = (fails f.now × (fault.reason ≡ ReadFault))
       ⊎ IfSome (bytes f.now) (λ all. IsFaultOfBytes order all fault)
   IsFaultOf order (Stream r) fault = GivesOne (can r) (λ c. (input : ℕ)
       × ((source_of input (read_as_of order, c)).refusal ≡ Some (record fault { input = input })))
 
   -- the fault has the number of one of these files, and is a fault of that file
-  abbrev pub IsFaultAmong : Order → List (RunFile F R) → Fault → Type 0
+  abbrev pub IsFaultAmong : Order → List (JobFile F R) → Fault → Type 0
   IsFaultAmong order files fault =
-      (file : RunFile F R) × (slice_get files fault.input ≡ Some file) × IsFaultOf order file fault
+      (file : JobFile F R) × (slice_get files fault.input ≡ Some file) × IsFaultOf order file fault
 
   -- memory ran out, or the fault is one of this file, which has this number
-  abbrev pub IsRefusedFile : Order → ℕ → RunFile F R → Fault → Type 0
+  abbrev pub IsRefusedFile : Order → ℕ → JobFile F R → Fault → Type 0
   IsRefusedFile order number file fault =
       (fault ≡ memory_fault) ⊎ ((fault.input ≡ number) × IsFaultOf order file fault)
 
   -- memory ran out, or the fault is one of these files
-  abbrev pub AreRefused : Order → List (RunFile F R) → Fault → Type 0
+  abbrev pub AreRefused : Order → List (JobFile F R) → Fault → Type 0
   AreRefused order files fault = (fault ≡ memory_fault) ⊎ IsFaultAmong order files fault
 
   -- A file that no run refuses: no read of it fails, its bytes are known, and they are a file that holds this set, in
   -- the order that is required. A stream gives such a file, whatever it gives.
-  abbrev pub IsGood : Order → RunFile F R → VersionSet → Type 0
+  abbrev pub IsGood : Order → JobFile F R → VersionSet → Type 0
   IsGood order (File f) held =
       (fails f.now → ⊥) × ((all : List ℕ) × (bytes f.now ≡ Some all) × HoldsAs order all held)
   IsGood order (Stream r) held = (c : InputRest) → can r c → GivesAs (read_as_of order, c) held
 
   -- if each file is good, a front of the one spelling of the selection of the union of the files' sets was appended
-  abbrev pub IsCutIfGood : FilesRun → List (RunFile F R) → Change → Fault → Type 0
+  abbrev pub IsCutIfGood : FilesJob → List (JobFile F R) → Change → Fault → Type 0
   IsCutIfGood run files change fault = (held : List VersionSet) → Pairwise (IsGood run.order) files held
       → CutShort (length files) change (spell run.format (selection_of run.selection (union_of held))) fault
 
-  -- Why a run over these files was refused: memory ran out, or one of the files or the output is at fault. If all files
+  -- Why a job over these files was refused: memory ran out, or one of the files or the output is at fault. If all files
   -- are good, and nothing that was written may be removed, a front of the file that was to be written was appended.
-  pub record RefusesFilesRun {O : Type 0} (output : Ghosts O) (can_clear : Bool) (run : FilesRun)
-      (files : List (RunFile F R)) (before after : O) (fault : Fault) : Type 0 where
-    pub why : (fault ≡ memory_fault) ⊎ IsFaultAmong run.order files fault ⊎ IsOutputFault (length files) fault
-    pub cut : (run.order ≡ Sorted) ⊎ (can_clear ≡ false)
-        → IsCutIfGood run files (change_of output before after) fault
+  pub record RefusesFilesJob {O : Type 0} (output : Ghosts O) (can_clear : Bool) (job : FilesJob)
+      (files : List (JobFile F R)) (before after : O) (fault : Fault) : Type 0 where
+    pub why : (fault ≡ memory_fault) ⊎ IsFaultAmong job.order files fault ⊎ IsOutputFault (length files) fault
+    pub cut : (job.order ≡ Sorted) ⊎ (can_clear ≡ false)
+        → IsCutIfGood job files (change_of output before after) fault
 
   -- ---- one turn
   -- the fault is one of this file; or the file may be split, and its first version out of order is there
-  abbrev pub IsFaultInWay : Order → RunFile F R → FileWay → Fault → Type 0
+  abbrev pub IsFaultInWay : Order → JobFile F R → FileWay → Fault → Type 0
   IsFaultInWay order file way fault = IsFaultOf order file fault
       ⊎ ((way.may_be_split ≡ true) × (fault.reason ≡ Unsorted) × IsFirstIn bytes file fault.place)
 
   -- the fault has the number of one of these files, and is a fault of that file, which is read in its way
-  abbrev pub IsFaultInWays : Order → List (RunFile F R) → List FileWay → Fault → Type 0
-  IsFaultInWays order files ways fault = (file : RunFile F R) × (way : FileWay)
+  abbrev pub IsFaultInWays : Order → List (JobFile F R) → List FileWay → Fault → Type 0
+  IsFaultInWays order files ways fault = (file : JobFile F R) × (way : FileWay)
       × (slice_get files fault.input ≡ Some file) × (slice_get ways fault.input ≡ Some way)
       × IsFaultInWay order file way fault
 
-  -- why a turn was refused, as for the run; a file that may be split may be out of order
-  pub record RefusesTurn {O : Type 0} (output : Ghosts O) (run : FilesRun) (files : List (RunFile F R))
+  -- why a turn was refused, as for the job; a file that may be split may be out of order
+  pub record RefusesTurn {O : Type 0} (output : Ghosts O) (job : FilesJob) (files : List (JobFile F R))
       (ways : List FileWay) (before after : O) (fault : Fault) : Type 0 where
-    pub why : (fault ≡ memory_fault) ⊎ IsFaultInWays run.order files ways fault ⊎ IsOutputFault (length files) fault
-    pub cut : AreSettled ways → IsCutIfGood run files (change_of output before after) fault
+    pub why : (fault ≡ memory_fault) ⊎ IsFaultInWays job.order files ways fault ⊎ IsOutputFault (length files) fault
+    pub cut : AreSettled ways → IsCutIfGood job files (change_of output before after) fault

@@ -18,10 +18,10 @@ use Rattle.osm_mirror.specs.declared.run.input.InputFile.{InputFile}
 use Rattle.osm_mirror.specs.declared.run.input.ReadAs.{ReadAs}
 use Rattle.osm_mirror.specs.declared.run.input.ReadAs.TheVariants.{Sorted, Any, Within}
 use Rattle.osm_mirror.specs.declared.run.slice.SliceFile.{SliceFile}
-use Rattle.osm_mirror.specs.declared.run.source.RunSource.{RunSource}
+use Rattle.osm_mirror.specs.declared.run.source.InputSource.{InputSource}
 use Rattle.osm_mirror.specs.run.Merge.{GivesSorted}
-use Rattle.osm_mirror.specs.run.Run.{sources_by}
-use Rattle.osm_mirror.specs.run.SliceRun.{HasSlice, GivesSlice, given_slice}
+use Rattle.osm_mirror.specs.run.Job.{sources_by}
+use Rattle.osm_mirror.specs.run.SliceJob.{HasSlice, GivesSlice, given_slice}
 use Rattle.osm_mirror.specs.run.SourceRest.{SourceCanGive}
 
 -- the input gives a file that holds this set, in any order of its versions, and then its end
@@ -91,12 +91,12 @@ IsRead (Within span outside, c) = Unit {0}
 
 -- A source of this file, which is the input of this number, was opened. For all that the source can give, the file
 -- could give bytes whose source gives the same. An input of any order is a file.
-abbrev pub IsOpened : {R : Type 0} → (R → InputRest → Type 0) → ℕ → InputFile R → RunSource R → Type 0
+abbrev pub IsOpened : {R : Type 0} → (R → InputRest → Type 0) → ℕ → InputFile R → InputSource R → Type 0
 IsOpened can number file source = Explained (InputFileCanGive can file) (SourceCanGive can source)
     (λ input still. (still ≡ source_of number input) × IsRead input)
 
 -- the sources are those of these files, one for one; the files are numbered from `number` on
-abbrev pub AreOpened : {R : Type 0} → (R → InputRest → Type 0) → ℕ → List (InputFile R) → List (RunSource R) → Type 0
+abbrev pub AreOpened : {R : Type 0} → (R → InputRest → Type 0) → ℕ → List (InputFile R) → List (InputSource R) → Type 0
 AreOpened can number [] [] = Unit {0}
 AreOpened can number [] (s ∷ opened) = ⊥
 AreOpened can number (file ∷ files) [] = ⊥

@@ -18,7 +18,7 @@ use Rattle.osm_mirror.specs.declared.run.input.InputFile.{InputFile}
 use Rattle.osm_mirror.specs.declared.run.input.ReadAs.{ReadAs}
 use Rattle.osm_mirror.specs.run.Given.{InputFileCanGive, GivesAs, sources}
 use Rattle.osm_mirror.specs.run.Merge as merge
-use Rattle.osm_mirror.specs.run.SelectedRun.{IsRun, RefusesRun}
+use Rattle.osm_mirror.specs.run.SelectedJob.{IsJob, RefusesJob}
 
 -- an input reports these bytes: it can give nothing else
 abbrev pub IsKnownToGive : {R C : Type 0} → (R → C → Type 0) → R → C → Type 0
@@ -43,7 +43,7 @@ HoldsOfKnown {C = C} can inputs P = SomeInputsGive can inputs P → (all : List 
 
 -- A run over inputs that may report their bytes. If it is done and all inputs report their bytes, `Done` holds of
 -- these; if it is refused, `Refused` does. If it is done, each input that reports its bytes gives a set.
-pub record IsRunOfKnown {R C : Type 0} (can : R → C → Type 0) (inputs : List R) (Gives : C → VersionSet → Type 0)
+pub record IsJobOfKnown {R C : Type 0} (can : R → C → Type 0) (inputs : List R) (Gives : C → VersionSet → Type 0)
     (Done : List C → Counts → Type 0) (Refused : List C → Fault → Type 0) : Type 0 where
   pub done : (counts : Counts) → HoldsOfKnown can inputs (λ all. Done all counts)
   pub refused : (fault : Fault) → HoldsOfKnown can inputs (λ all. Refused all fault)
@@ -53,16 +53,16 @@ pub record IsRunOfKnown {R C : Type 0} (can : R → C → Type 0) (inputs : List
 -- merges of inputs that may report their bytes
 abbrev pub MergesOfKnown : {R O : Type 0} → (R → InputRest → Type 0) → Ghosts O → Type 0
 MergesOfKnown {R = R} {O = O} can output = (inputs : List R) (format : Format) (before after : O) →
-    IsRunOfKnown can inputs merge.GivesSorted
+    IsJobOfKnown can inputs merge.GivesSorted
     (λ all. merge.IsMerged all format (change_of output before after))
     (λ all. merge.Refuses all format (change_of output before after))
 
 -- runs over inputs that may report their bytes
-abbrev pub RunsOfKnown : {R O : Type 0} → (R → InputRest → Type 0) → Ghosts O → Type 0
-RunsOfKnown {R = R} {O = O} can output = (selection : Selection) (inputs : List (InputFile R)) (format : Format)
-    (before after : O) → IsRunOfKnown (InputFileCanGive can) inputs GivesAs
-    (λ all. IsRun selection all format (change_of output before after))
-    (λ all. RefusesRun output selection all format before after)
+abbrev pub JobsOfKnown : {R O : Type 0} → (R → InputRest → Type 0) → Ghosts O → Type 0
+JobsOfKnown {R = R} {O = O} can output = (selection : Selection) (inputs : List (InputFile R)) (format : Format)
+    (before after : O) → IsJobOfKnown (InputFileCanGive can) inputs GivesAs
+    (λ all. IsJob selection all format (change_of output before after))
+    (λ all. RefusesJob output selection all format before after)
 
 -- a merge wrote the file of a set
 abbrev pub MergesWriteASet : {O : Type 0} → Ghosts O → Type 0
@@ -71,9 +71,9 @@ MergesWriteASet {O = O} output = (all : List InputRest) (format : Format) (befor
     WritesSet format (change_of output before after) counts
 
 -- a run wrote the file of a set
-abbrev pub RunsWriteASet : {O : Type 0} → Ghosts O → Type 0
-RunsWriteASet {O = O} output = (selection : Selection) (all : List (ReadAs × InputRest)) (format : Format)
-    (before after : O) (counts : Counts) → IsRun selection all format (change_of output before after) counts →
+abbrev pub JobsWriteASet : {O : Type 0} → Ghosts O → Type 0
+JobsWriteASet {O = O} output = (selection : Selection) (all : List (ReadAs × InputRest)) (format : Format)
+    (before after : O) (counts : Counts) → IsJob selection all format (change_of output before after) counts →
     WritesSet format (change_of output before after) counts
 
 -- a merge that was refused wrote a front of the file of the union of what its inputs give
@@ -83,7 +83,7 @@ RefusedMergesHaveBegun {O = O} output = (all : List InputRest) (format : Format)
     (given : List VersionsToCome) × merge.AreGivenBy 0 all given × HasBegun given format (change_of output before after)
 
 -- a run that was refused wrote a front of the file of the selection
-abbrev pub RefusedRunsHaveBegun : {O : Type 0} → Ghosts O → Type 0
-RefusedRunsHaveBegun {O = O} output = (selection : Selection) (all : List (ReadAs × InputRest)) (format : Format)
-    (before after : O) (fault : Fault) → RefusesRun output selection all format before after fault →
+abbrev pub RefusedJobsHaveBegun : {O : Type 0} → Ghosts O → Type 0
+RefusedJobsHaveBegun {O = O} output = (selection : Selection) (all : List (ReadAs × InputRest)) (format : Format)
+    (before after : O) (fault : Fault) → RefusesJob output selection all format before after fault →
     HasBegunIn (selection_of selection (union_given (sources 0 all))) format (change_of output before after)

@@ -10,7 +10,7 @@ use Rattle.osm_files.specs.FirstFault.{IsGivenBy}
 use Rattle.osm_merge.specs.declared.merge.Counts.{Counts}
 use Rattle.osm_merge.specs.ToCome as source
 use Rattle.osm_merge.specs.Merged as merged
-use Rattle.osm_mirror.specs.run.Run.{IsRunBy, RefusesRunBy}
+use Rattle.osm_mirror.specs.run.Job.{IsJobBy, RefusesJobBy}
 
 -- the input gives a sorted file that holds this set, and then its end
 pub record GivesSorted (input : InputRest) (held : VersionSet) : Type 0 where
@@ -20,7 +20,7 @@ pub record GivesSorted (input : InputRest) (held : VersionSet) : Type 0 where
 -- A merge of these inputs, in this format, with this change of the output: each input gave a sorted file, and the one
 -- spelling of the union of their sets was appended.
 abbrev pub IsMerged : List InputRest → Format → Change → Counts → Type 0
-IsMerged = IsRunBy GivesSorted (λ set. set) merged.IsBounded
+IsMerged = IsJobBy GivesSorted (λ set. set) merged.IsBounded
 
 -- the sources of these inputs give this, one for one; the inputs are numbered from `number` on
 abbrev pub AreGivenBy : ℕ → List InputRest → List source.VersionsToCome → Type 0
@@ -40,4 +40,4 @@ IsRefused inputs format change fault = (given : List source.VersionsToCome) × A
 -- spelling of the union of their sets.
 abbrev pub Refuses : List InputRest → Format → Change → Fault → Type 0
 Refuses inputs format change fault =
-    RefusesRunBy (IsRefused inputs format change fault) GivesSorted (λ set. set) inputs format change fault
+    RefusesJobBy (IsRefused inputs format change fault) GivesSorted (λ set. set) inputs format change fault

@@ -6,9 +6,9 @@ use Rattle.opl_line.specs.Time.{reading_time}
 use Rattle.opl_line.specs.declared.reason.OplReason.{OplReason}
 use Rattle.osm_merge.specs.declared.selection.Selection.{Selection}
 use Rattle.osm_merge.specs.declared.selection.Selection.TheVariants.{All, Newest, NewestVisible, StateVisible, Between}
-use Rattle.osm_mirror.specs.declared.run.files_run.FilesRun.{FilesRun}
-use Rattle.osm_mirror.specs.declared.run.files_run.Order.{Order}
-use Rattle.osm_mirror.specs.declared.run.files_run.Order.TheVariants.{Sorted, Any}
+use Rattle.osm_mirror.specs.declared.run.files_job.FilesJob.{FilesJob}
+use Rattle.osm_mirror.specs.declared.run.files_job.Order.{Order}
+use Rattle.osm_mirror.specs.declared.run.files_job.Order.TheVariants.{Sorted, Any}
 use Rattle.osm_mirror.specs.declared.run.request.Command.{Command}
 use Rattle.osm_mirror.specs.declared.run.request.Command.TheVariants.{Merge, Apply, Sort, TimeFilter}
 use Rattle.osm_mirror.specs.declared.run.request.FileEnd.{FileEnd}
@@ -81,8 +81,8 @@ selection_for Apply asked = Ok (applied_selection asked.with_history asked.with_
 selection_for TimeFilter asked = filtered_selection asked.time asked.end
 
 -- the run for which a request asks
-abbrev pub requested_run : FileRequest → Result FilesRun RequestFault
-requested_run asked = and_then (selection_for asked.command asked) (λ selection. Ok (record {
+abbrev pub requested_job : FileRequest → Result FilesJob RequestFault
+requested_job asked = and_then (selection_for asked.command asked) (λ selection. Ok (record {
   selection = selection;
   order = order_for asked.command asked.sorted;
   format = asked.format;

@@ -18,14 +18,14 @@ use Rattle.osm_files.specs.Spell.{spell}
 use Rattle.osm_merge.specs.declared.object.Span.{Span}
 use Rattle.osm_merge.specs.declared.selection.Selection.{Selection}
 use Rattle.osm_merge.specs.Selected.{selection_of}
-use Rattle.osm_mirror.specs.declared.run.files_run.Order.TheVariants.{Sorted}
+use Rattle.osm_mirror.specs.declared.run.files_job.Order.TheVariants.{Sorted}
 use Rattle.osm_mirror.specs.declared.run.shard_part.FilePart.{FilePart}
-use Rattle.osm_mirror.specs.declared.run.shard_run.ShardRun.{ShardRun}
+use Rattle.osm_mirror.specs.declared.run.shard_job.ShardJob.{ShardJob}
 use Rattle.osm_mirror.specs.run.Bounds.{opl_size, shard_span}
 use Rattle.osm_mirror.specs.run.FilesRefusal.{IsFaultOfBytes, IsOutputFault}
 use Rattle.osm_mirror.specs.run.Probes.{HaveBytes}
-use Rattle.osm_mirror.specs.run.Run.{union_of}
-use Rattle.osm_mirror.specs.run.ShardRun.{shard_slices}
+use Rattle.osm_mirror.specs.run.Job.{union_of}
+use Rattle.osm_mirror.specs.run.ShardJob.{shard_slices}
 
 -- A file is refused because memory ran out or it can't be read; or its bytes, if they are known, aren't a sorted file.
 -- `Fails` holds if reads of the file may fail.
@@ -86,7 +86,7 @@ module _ {F : Type 0} (known : F → Option (List ℕ)) (fails : F → Type 0) w
 
   -- Why a run for a shard of these files was refused: memory ran out, or one of the files or the output is at fault. If
   -- all files are good, a front of the file that was to be written was appended.
-  abbrev pub RefusesShardRun : {O : Type 0} → Ghosts O → ShardRun → List F → O → O → Fault → Type 0
-  RefusesShardRun output run files before after =
+  abbrev pub RefusesShardJob : {O : Type 0} → Ghosts O → ShardJob → List F → O → O → Fault → Type 0
+  RefusesShardJob output run files before after =
       RefusesSpan IsFaultOfFile run.selection run.format (shard_span run.shard.number run.shard.count) files
       (change_of output before after)

@@ -15,7 +15,7 @@ use Rattle.osm_merge.specs.declared.selection.Selection.{Selection}
 use Rattle.osm_merge.specs.Selected.{selection_of}
 use Rattle.osm_merge.specs.Slice.{object_order, slices, spans, IsWithin}
 use Rattle.osm_mirror.specs.run.CutOffset.{BeginsLines}
-use Rattle.osm_mirror.specs.run.Run.{union_of}
+use Rattle.osm_mirror.specs.run.Job.{union_of}
 
 -- the parts of some bytes between offsets, in sequence, from the offset `start` on
 abbrev pub parts_from : ℕ → List ℕ → List ℕ → List (List ℕ)
@@ -66,8 +66,8 @@ HasSlices bounds held parts = slices bounds held ≡ parts
 
 -- For sets with these slices, one run for each span writes what one run over the sets writes: the OPL files of the
 -- runs, in sequence, are the OPL file of the one run.
-abbrev pub ShardsWriteTheRun : Type 0
-ShardsWriteTheRun =
+abbrev pub ShardsWriteTheJob : Type 0
+ShardsWriteTheJob =
     (selection : Selection) (bounds : List Object) (sets : List VersionSet) (parts : List (List VersionSet))
     → IsSorted object_order bounds → Pairwise (HasSlices bounds) sets parts
     → spell Opl (selection_of selection (union_of sets))

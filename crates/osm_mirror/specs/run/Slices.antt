@@ -13,7 +13,7 @@ use Rattle.osm_merge.specs.declared.object.Span.{Span}
 use Rattle.osm_merge.specs.declared.selection.Selection.{Selection}
 use Rattle.osm_merge.specs.Selected.{selection_of}
 use Rattle.osm_merge.specs.Slice.{object_order, slice_of, spans, slices, IsWithin}
-use Rattle.osm_mirror.specs.run.Run.{union_of}
+use Rattle.osm_mirror.specs.run.Job.{union_of}
 
 -- A file that is split into sorted files, each within its span, is sorted. It holds the union of their sets, and each
 -- of them holds its slice of the union.
@@ -29,8 +29,8 @@ AreSlicesWithin sets span sliced = sliced ≡ map (slice_of span.from span.to) s
 
 -- One run for each span, over the slices of some sets, writes the same as one run over the sets: the OPL files of the
 -- runs, in sequence, are the OPL file of the one run.
-abbrev pub SlicesWriteTheRun : Type 0
-SlicesWriteTheRun =
+abbrev pub SlicesWriteTheJob : Type 0
+SlicesWriteTheJob =
     (selection : Selection) (bounds : List Object) (sets : List VersionSet) (runs : List (List VersionSet))
     → IsSorted object_order bounds → Pairwise (AreSlicesWithin sets) (spans bounds) runs
     → spell Opl (selection_of selection (union_of sets))

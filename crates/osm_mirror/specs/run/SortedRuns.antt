@@ -8,7 +8,7 @@ use Rattle.osm_files.specs.SortedRun.{IsSplitInto}
 use Rattle.osm_files.specs.Spell.{spell}
 use Rattle.osm_merge.specs.declared.selection.Selection.{Selection}
 use Rattle.osm_merge.specs.Selected.{selection_of}
-use Rattle.osm_mirror.specs.run.Run.{union_of}
+use Rattle.osm_mirror.specs.run.Job.{union_of}
 
 -- a file that is split into files holds the union of their sets
 abbrev pub SortedRunsHoldTheFile : Type 0

@@ -1,4 +1,4 @@
-//! The reports of a run in progress: when one is due, and its text.
+//! The reports of a job in progress: when one is due, and its text.
 ghost use Rattle.std.specs.Prelude.{◌↔◌, ◌≤◌, IsTrue, if◌then◌else◌};
 
 use std::fmt;
@@ -26,11 +26,11 @@ pub fn is_report_due(is_terminal: bool, milliseconds: u128) -> bool
     interval <= milliseconds
 }
 
-/// The bytes that a run has read so far. The text is their number in megabytes, and also the percentage if the size of
+/// The bytes that a job has read so far. The text is their number in megabytes, and also the percentage if the size of
 /// all inputs is known.
 #[derive(Clone, Copy, Debug)]
 pub struct BytesRead {
-    /// The number of bytes that the run has read.
+    /// The number of bytes that the job has read.
     pub bytes: u64,
     /// The size of all inputs in bytes, if it is known.
     pub size: Option<u64>,

@@ -1,4 +1,4 @@
-//! The offset at which an OPL file is cut at an object, so that each of several runs reads only its slice of the file.
+//! The offset at which an OPL file is cut at an object, so that each of several jobs reads only its slice of the file.
 ghost use Rattle.std.specs.Prelude.{◌≡◌, IfOk, IfErr};
 ghost use Rattle.osm_files.specs.Fault.{IsOfFile};
 ghost use Rattle.osm_files.specs.FileRuns.{IsReadFailure};

@@ -1,12 +1,12 @@
-//! The ways in which a run reads its files: each as one input, or as several sorted runs.
+//! The ways in which a job reads its files: each as one input, or as several sorted runs.
 ghost use Rattle.std.specs.Prelude.{◌≡◌, ◌<◌, ◌^◌, false, true, Some, length, set, IfOk, IfErr, OnOk, IfSome};
 ghost use Rattle.osm_files.specs.Fault.{memory_fault};
 ghost use Rattle.osm_mirror.specs.declared.run.file_way.FilesToSplit.TheVariants as to_split;
 ghost use Rattle.osm_mirror.specs.run.FilesRefusal.{IsSizeFault, IsFirstIn, IsFirstOf, IsFirstKnown, IsRefusedFile};
 ghost use Rattle.osm_mirror.specs.run.FilesRefusal.{AreRefused, AreSettled};
-ghost use Rattle.osm_mirror.specs.run.FilesRun.{IsReadWhole, FileFits, FilesFit};
+ghost use Rattle.osm_mirror.specs.run.FilesJob.{IsReadWhole, FileFits, FilesFit};
 
-use crate::run::files_run::{Order, RunFile};
+use crate::run::files_job::{JobFile, Order};
 use crate::run::probe::descends;
 use osm_files::{Fault, Input, LENGTH_LIMIT, ReadAt, Reason, SortedRun, find_runs};
 use std::alloc::Global;
@@ -14,7 +14,7 @@ use std::alloc::Global;
 /// The greatest number of inputs that are read at the same time, unless there are more files. Each has a buffer.
 const MOST_INPUTS: usize = 128;
 
-/// How a run reads a file: as one input, or as several sorted runs of it.
+/// How a job reads a file: as one input, or as several sorted runs of it.
 #[derive(Drop)]
 pub(crate) struct FileWay {
     /// The order that the versions of each input must have.
@@ -69,7 +69,7 @@ impl FilesToSplit {
     fn has<'f, F: ReadAt, R>(
         self,
         alloc: Global,
-        files: &[RunFile<'f, F, R>],
+        files: &[JobFile<'f, F, R>],
         number: usize,
     ) -> bool
         ensures { self ≡ to_split.All → result ≡ true }
@@ -77,7 +77,7 @@ impl FilesToSplit {
         match self {
             FilesToSplit::OfFirst(first) => first.file == number,
             FilesToSplit::Descending => match files.get(number) {
-                Some(RunFile::File(file)) => descends(alloc, *file),
+                Some(JobFile::File(file)) => descends(alloc, *file),
                 _ => false,
             },
             FilesToSplit::All => true,
@@ -104,7 +104,7 @@ impl FilesToSplit {
 fn first_ways<'f, F: ReadAt, R: Input>(
     alloc: Global,
     order: Order,
-    files: &[RunFile<'f, F, R>],
+    files: &[JobFile<'f, F, R>],
 ) -> Result<Vec<FileWay>, Fault>
     ensures fit { IfOk result (λ ways. FilesFit F.bytes order files.now ways.items) }
     ensures refused { IfErr result (AreRefused F.fails F.bytes R.can_give order files.now) }
@@ -120,18 +120,18 @@ fn first_ways<'f, F: ReadAt, R: Input>(
 fn first_way<'f, F: ReadAt, R: Input>(
     alloc: Global,
     order: Order,
-    file: &RunFile<'f, F, R>,
+    file: &JobFile<'f, F, R>,
     number: usize,
 ) -> Result<FileWay, Fault>
     ensures fits { IfOk result (FileFits F.bytes order file.now) }
     ensures refused { IfErr result (IsRefusedFile F.fails F.bytes R.can_give order number file.now) }
 {
     match file {
-        RunFile::File(file) => {
+        JobFile::File(file) => {
             let size = short_size(*file, number)?;
             FileWay::whole(alloc, Order::Sorted, size, order.is_any())
         }
-        RunFile::Stream(_) => FileWay::whole(alloc, order, 0, false),
+        JobFile::Stream(_) => FileWay::whole(alloc, order, 0, false),
     }
 }
 
@@ -158,7 +158,7 @@ fn short_size<F: ReadAt>(file: &F, number: usize) -> Result<u64, Fault>
 pub(crate) fn ways_at_first<'f, F: ReadAt, R: Input>(
     alloc: Global,
     order: Order,
-    files: &[RunFile<'f, F, R>],
+    files: &[JobFile<'f, F, R>],
     may_look: bool,
 ) -> Result<Vec<FileWay>, Fault>
     requires any { may_look ≡ true → order ≡ Order.Any }
@@ -181,7 +181,7 @@ pub(crate) fn ways_at_first<'f, F: ReadAt, R: Input>(
 /// The fault of a file that can't be read; or `Memory`.
 pub(crate) fn ways_after<'f, F: ReadAt, R: Input>(
     alloc: Global,
-    files: &[RunFile<'f, F, R>],
+    files: &[JobFile<'f, F, R>],
     mut ways: Vec<FileWay>,
     first: FirstUnsorted,
     turn: usize,
@@ -211,7 +211,7 @@ pub(crate) fn ways_after<'f, F: ReadAt, R: Input>(
 pub(crate) fn last_ways<'f, F: ReadAt, R: Input>(
     alloc: Global,
     order: Order,
-    files: &[RunFile<'f, F, R>],
+    files: &[JobFile<'f, F, R>],
     ways: Vec<FileWay>,
 ) -> Result<Vec<FileWay>, Fault>
     requires fit { FilesFit F.bytes order files.now ways.items }
@@ -229,7 +229,7 @@ pub(crate) fn last_ways<'f, F: ReadAt, R: Input>(
 /// Splits into sorted runs all files that may be split.
 fn split_all<'f, F: ReadAt, R: Input>(
     alloc: Global,
-    files: &[RunFile<'f, F, R>],
+    files: &[JobFile<'f, F, R>],
     mut ways: Vec<FileWay>,
 ) -> Result<Vec<FileWay>, Fault>
     requires fit { FilesFit F.bytes Order.Any files.now ways.items }
@@ -249,7 +249,7 @@ fn split_all<'f, F: ReadAt, R: Input>(
 /// The fault of a file that can't be read; or `Memory`.
 fn split_files<'f, F: ReadAt, R: Input>(
     alloc: Global,
-    files: &[RunFile<'f, F, R>],
+    files: &[JobFile<'f, F, R>],
     ways: &mut [FileWay],
     which: FilesToSplit,
 ) -> Result<(), Fault>
@@ -271,7 +271,7 @@ fn split_files<'f, F: ReadAt, R: Input>(
 /// known.
 fn split_way<'f, F: ReadAt, R: Input>(
     alloc: Global,
-    files: &[RunFile<'f, F, R>],
+    files: &[JobFile<'f, F, R>],
     ways: &mut [FileWay],
     number: usize,
     first: Option<u64>,
@@ -304,7 +304,7 @@ fn inputs_of_others(ways: &[FileWay], number: usize) -> usize {
 /// version that is out of order, if it is known.
 fn split_file<'f, F: ReadAt, R: Input>(
     alloc: Global,
-    file: &RunFile<'f, F, R>,
+    file: &JobFile<'f, F, R>,
     number: usize,
     first: Option<u64>,
     most: usize,
@@ -314,7 +314,7 @@ fn split_file<'f, F: ReadAt, R: Input>(
     ensures settled { IfOk result (λ way. way.may_be_split ≡ false) }
     ensures refused { IfErr result (IsRefusedFile F.fails F.bytes R.can_give Order.Any number file.now) }
 {
-    let RunFile::File(file) = file else {
+    let JobFile::File(file) = file else {
         return FileWay::whole(alloc, Order::Any, 0, false);
     };
     let size = short_size(*file, number)?;

@@ -1,4 +1,4 @@
-//! One turn of a run over files: each file is read in its way, and the output is written once.
+//! One turn of a job over files: each file is read in its way, and the output is written once.
 ghost use Rattle.std.specs.Prelude.{◌≡◌, ◌+◌, ◌-◌, ◌<◌, ◌^◌, length, IfOk, IfErr, OnOk};
 ghost use Rattle.osm_files.specs.Change.{change_of};
 ghost use Rattle.osm_files.specs.Fault.{memory_fault};
@@ -6,38 +6,38 @@ ghost use Rattle.osm_files.specs.FileInput.{FileInputCanGive};
 ghost use Rattle.osm_files.specs.Output.{IsGoodThroughout};
 ghost use Rattle.osm_merge.specs.Merged.{Grows};
 ghost use Rattle.osm_mirror.specs.run.FilesRefusal.{RefusesTurn};
-ghost use Rattle.osm_mirror.specs.run.FilesRun.{IsFilesRun, FilesFit, OpensFiles, AddsFile, fault_in_files};
+ghost use Rattle.osm_mirror.specs.run.FilesJob.{IsFilesJob, FilesFit, OpensFiles, AddsFile, fault_in_files};
 
 use crate::laws::sorted_runs_hold_the_file;
 use crate::run::file_way::FileWay;
-use crate::run::files_run::{FilesRun, RunFile};
+use crate::run::files_job::{FilesJob, JobFile};
 use crate::run::input::InputFile;
 use crate::run::run_selected;
 use osm_files::{Fault, FileInput, FramedExtent, Input, Output, ReadAt};
 use osm_merge::{Counts, Progress};
 use std::alloc::Global;
 
-/// Reads each file in its way, and appends the file that `run` is to write. Fault numbers are those of files.
+/// Reads each file in its way, and appends the file that `job` is to write. Fault numbers are those of files.
 pub(crate) fn run_turn<'f, F: ReadAt, R: Input + Drop, W: Output, P: Progress>(
     alloc: Global,
-    run: FilesRun,
-    files: Vec<RunFile<'f, F, R>>,
+    job: FilesJob,
+    files: Vec<JobFile<'f, F, R>>,
     ways: &[FileWay],
     out: &mut W,
     progress: &mut P,
 ) -> Result<Counts, Fault>
-    requires fit { FilesFit F.bytes run.order files.items ways.now }
+    requires fit { FilesFit F.bytes job.order files.items ways.now }
     ensures written { IfOk result (λ counts.
-        IsFilesRun F.bytes R.can_give run files.entry.items (change_of W.Output out.old out.new) counts) }
+        IsFilesJob F.bytes R.can_give job files.entry.items (change_of W.Output out.old out.new) counts) }
     ensures refused { IfErr result (λ fault.
-        RefusesTurn F.fails F.bytes R.can_give W.Output run files.entry.items ways.now out.old out.new fault) }
+        RefusesTurn F.fails F.bytes R.can_give W.Output job files.entry.items ways.now out.old out.new fault) }
     ensures kept { Grows (change_of W.Output out.old out.new) }
     ensures good { OnOk result (IsGoodThroughout (change_of W.Output out.old out.new)) }
 {
     sorted_runs_hold_the_file();
     let inputs = open_files(alloc, files, ways)?;
     progress.begin();
-    match run_selected(alloc, run.selection, inputs, run.format, out, progress) {
+    match run_selected(alloc, job.selection, inputs, job.format, out, progress) {
         Ok(counts) => Ok(counts),
         Err(fault) => Err(fault_of_file(ways, fault)),
     }
@@ -46,7 +46,7 @@ pub(crate) fn run_turn<'f, F: ReadAt, R: Input + Drop, W: Output, P: Progress>(
 /// The inputs of the files, each read in its way.
 fn open_files<'f, F: ReadAt, R: Input + Drop>(
     alloc: Global,
-    files: Vec<RunFile<'f, F, R>>,
+    files: Vec<JobFile<'f, F, R>>,
     ways: &[FileWay],
 ) -> Result<Vec<InputFile<FileInput<'f, F, R>>>, Fault>
     requires same { length files.items ≡ length ways.now }
@@ -63,7 +63,7 @@ fn open_files<'f, F: ReadAt, R: Input + Drop>(
 
 /// Appends the inputs of a file.
 fn push_inputs<'f, F: ReadAt, R: Input + Drop>(
-    file: RunFile<'f, F, R>,
+    file: JobFile<'f, F, R>,
     way: &FileWay,
     inputs: &mut Vec<InputFile<FileInput<'f, F, R>>>,
 ) -> Result<(), Fault>
@@ -72,8 +72,8 @@ fn push_inputs<'f, F: ReadAt, R: Input + Drop>(
     ensures memory { IfErr result (λ fault. fault ≡ memory_fault) }
 {
     match file {
-        RunFile::File(file) => push_runs(file, way, inputs),
-        RunFile::Stream(stream) => push_stream(stream, way, inputs),
+        JobFile::File(file) => push_runs(file, way, inputs),
+        JobFile::Stream(stream) => push_stream(stream, way, inputs),
     }
 }
 
@@ -84,7 +84,7 @@ fn push_stream<'f, F: ReadAt, R: Input + Drop>(
     inputs: &mut Vec<InputFile<FileInput<'f, F, R>>>,
 ) -> Result<(), Fault>
     ensures added { OnOk result (AddsFile F.fails F.bytes R.can_give (FileInputCanGive F.fails F.bytes R.can_give)
-        (RunFile.Stream stream) way.now inputs.old.items inputs.new.items) }
+        (JobFile.Stream stream) way.now inputs.old.items inputs.new.items) }
     ensures memory { IfErr result (λ fault. fault ≡ memory_fault) }
 {
     let reader = FileInput::Stream(stream);
@@ -99,7 +99,7 @@ fn push_runs<'f, F: ReadAt, R: Input + Drop>(
     inputs: &mut Vec<InputFile<FileInput<'f, F, R>>>,
 ) -> Result<(), Fault>
     ensures added { OnOk result (AddsFile F.fails F.bytes R.can_give (FileInputCanGive F.fails F.bytes R.can_give)
-        (RunFile.File file.entry) way.now inputs.old.items inputs.new.items) }
+        (JobFile.File file.entry) way.now inputs.old.items inputs.new.items) }
     ensures memory { IfErr result (λ fault. fault ≡ memory_fault) }
 {
     'runs: for number in 0..way.runs.len() {

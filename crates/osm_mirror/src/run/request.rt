@@ -3,9 +3,9 @@ ghost use Rattle.std.specs.Prelude.{◌≡◌, ◌≢◌, Some, None, IfSome, Ma
 ghost use Rattle.opl_line.specs.Time.{reading_time};
 ghost use Rattle.osm_mirror.specs.declared.run.request.Command.{Command};
 ghost use Rattle.osm_mirror.specs.run.Request.{command_name, order_for, applied_selection, filtered_selection};
-ghost use Rattle.osm_mirror.specs.run.Request.{moment_of, selection_for, requested_run, required_end, end_of_file};
+ghost use Rattle.osm_mirror.specs.run.Request.{moment_of, selection_for, requested_job, required_end, end_of_file};
 
-use crate::run::files_run::{FilesRun, Order};
+use crate::run::files_job::{FilesJob, Order};
 use opl_line::read_time;
 use osm_files::Format;
 use osm_merge::Selection;
@@ -107,16 +107,16 @@ pub struct FileRequest<'a> {
 }
 
 impl<'a> FileRequest<'a> {
-    /// The run for which the request asks.
+    /// The job for which the request asks.
     ///
     /// # Errors
     ///
     /// A fault of the times of `time-filter`.
-    pub fn run(&self) -> Result<FilesRun, RequestFault<'a>>
-        ensures { result ≡ requested_run self.now }
+    pub fn run(&self) -> Result<FilesJob, RequestFault<'a>>
+        ensures { result ≡ requested_job self.now }
     {
         match self.selection() {
-            Ok(selection) => Ok(FilesRun {
+            Ok(selection) => Ok(FilesJob {
                 selection,
                 order: self.order(),
                 format: self.format,
@@ -192,7 +192,7 @@ fn moment<'a>(time: &'a str) -> Result<u32, RequestFault<'a>>
     read_moment(time.as_bytes()).ok_or(RequestFault::NotMoment { time })
 }
 
-/// Why the arguments of a command ask for no run.
+/// Why the arguments of a command ask for no job.
 #[derive(Clone, Copy, Debug, PartialEq, Eq, Error)]
 pub enum RequestFault<'a> {
     /// `time-filter` has no time.

@@ -1,4 +1,4 @@
-//! The run over files for a slice of their objects.
+//! The job over files for a slice of their objects.
 ghost use Rattle.std.specs.Prelude.{◌≡◌, map, IfOk, IfErr, OnOk};
 ghost use Rattle.osm_files.specs.Fault.{memory_fault};
 ghost use Rattle.osm_files.specs.Output.{IsGoodThroughout};
@@ -6,7 +6,7 @@ ghost use Rattle.osm_files.specs.Change.{change_of};
 ghost use Rattle.osm_merge.specs.Giving.{SomeInputsGive};
 ghost use Rattle.osm_merge.specs.Merged.{Grows};
 ghost use Rattle.osm_mirror.specs.run.Given.{file_within};
-ghost use Rattle.osm_mirror.specs.run.SliceRun.{SliceFileCanGive, IsSliceRun, RefusesSlice};
+ghost use Rattle.osm_mirror.specs.run.SliceJob.{SliceFileCanGive, IsSliceJob, RefusesSlice};
 
 use crate::run::input::{InputFile, ReadAs};
 use crate::run::run_selected;
@@ -14,7 +14,7 @@ use osm_files::{Fault, Format, Input, Output};
 use osm_merge::{Counts, Outside, Progress, Selection, Span};
 use std::alloc::Global;
 
-/// The slice that a run writes: the selected versions of the objects within a span.
+/// The slice that a job writes: the selected versions of the objects within a span.
 #[derive(Clone, Copy, Debug, PartialEq, Eq)]
 pub struct Slice {
     /// The span of the objects.
@@ -36,11 +36,11 @@ pub struct SliceFile<R> {
 /// Appends the one file of the format `format` that holds a slice of the selection of the versions of all inputs, each
 /// once.
 ///
-/// A whole file is read only up to the upper bound. `progress` observes the run, and changes nothing.
+/// A whole file is read only up to the upper bound. `progress` observes the job, and changes nothing.
 ///
 /// # Errors
 ///
-/// As for a run over sorted files. A version of a part of a file that is outside of the span is refused as `Unsorted`,
+/// As for a job over sorted files. A version of a part of a file that is outside of the span is refused as `Unsorted`,
 /// at the offset 0. The inputs are numbered from 0, and the number of the output is the number of inputs.
 pub fn run_slice<R: Input + Drop, W: Output, P: Progress>(
     alloc: Global,
@@ -51,7 +51,7 @@ pub fn run_slice<R: Input + Drop, W: Output, P: Progress>(
     progress: &mut P,
 ) -> Result<Counts, Fault>
     ensures written { IfOk result (λ counts. SomeInputsGive (SliceFileCanGive R.can_give) inputs.items (λ all.
-        IsSliceRun slice all format (change_of W.Output out.old out.new) counts)) }
+        IsSliceJob slice all format (change_of W.Output out.old out.new) counts)) }
     ensures refused { IfErr result (λ fault. SomeInputsGive (SliceFileCanGive R.can_give) inputs.items (λ all.
         RefusesSlice slice all format (change_of W.Output out.old out.new) fault)) }
     ensures kept { Grows (change_of W.Output out.old out.new) }

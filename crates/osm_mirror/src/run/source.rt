@@ -1,4 +1,4 @@
-//! The sources of files: a stream for each sorted file, and a history for each of the others. Each run opens its
+//! The sources of files: a stream for each sorted file, and a history for each of the others. Each job opens its
 //! sources here.
 ghost use Rattle.std.specs.Prelude.{◌≡◌, [], ◌∷◌, ◌++◌, length, IfOk, IfErr, OnOk};
 ghost use Rattle.osm_files.specs.Fault.{memory_fault};
@@ -15,7 +15,7 @@ use std::alloc::Global;
 
 /// The versions of a file, ascending.
 #[derive(Drop)]
-pub enum RunSource<R: Input> {
+pub enum InputSource<R: Input> {
     /// The versions of a sorted file, which is read as it is needed.
     Streamed(FileSource<R>),
     /// The versions of a file that was read to its end.
@@ -24,7 +24,7 @@ pub enum RunSource<R: Input> {
     Sliced(Within<FileSource<R>>),
 }
 
-impl<R: Input> Source for RunSource<R> {
+impl<R: Input> Source for InputSource<R> {
     ghost use Rattle.osm_mirror.specs.run.SourceRest.{SourceCanGive, source_one, left_of, number_of, failed_of};
     ghost use Rattle.osm_mirror.specs.run.SourceRest.{source_possible, source_ascends};
 
@@ -45,18 +45,18 @@ impl<R: Input> Source for RunSource<R> {
     #[inline(always)]
     fn next(&mut self) -> Result<Option<Version>, Fault> {
         match self {
-            RunSource::Streamed(source) => source.next(),
-            RunSource::Held(source) => source.next(),
-            RunSource::Sliced(source) => source.next(),
+            InputSource::Streamed(source) => source.next(),
+            InputSource::Held(source) => source.next(),
+            InputSource::Sliced(source) => source.next(),
         }
     }
 
     #[inline(always)]
     fn reuse(&mut self, version: Version) {
         match self {
-            RunSource::Streamed(source) => source.reuse(version),
-            RunSource::Held(source) => source.reuse(version),
-            RunSource::Sliced(source) => source.reuse(version),
+            InputSource::Streamed(source) => source.reuse(version),
+            InputSource::Held(source) => source.reuse(version),
+            InputSource::Sliced(source) => source.reuse(version),
         }
     }
 }
@@ -69,7 +69,7 @@ impl<R: Input> Source for RunSource<R> {
 pub fn open_inputs<R: Input + Drop>(
     alloc: Global,
     inputs: Vec<InputFile<R>>,
-) -> Result<Vec<RunSource<R>>, Fault>
+) -> Result<Vec<InputSource<R>>, Fault>
     ensures opened { IfOk result (λ sources. AreOpened R.can_give 0 inputs.items sources.items) }
     ensures refused { IfErr result (λ fault. SomeInputsGive (InputFileCanGive R.can_give) inputs.items (λ all.
         IsUnopened 0 all fault)) }
@@ -87,7 +87,7 @@ fn push_input<R: Input + Drop>(
     alloc: Global,
     count: usize,
     file: InputFile<R>,
-    sources: &mut Vec<RunSource<R>>,
+    sources: &mut Vec<InputSource<R>>,
 ) -> Result<(), Fault>
     ensures pushed { OnOk result ((source : _) × (sources.new.items ≡ sources.old.items ++ source ∷ [])
         × IsOpened R.can_give (length sources.old.items) file source) }
@@ -103,7 +103,7 @@ fn open_input<R: Input + Drop>(
     number: usize,
     count: usize,
     file: InputFile<R>,
-) -> Result<RunSource<R>, Fault>
+) -> Result<InputSource<R>, Fault>
     ensures opened { IfOk result (λ source. IsOpened R.can_give number file source) }
     ensures refused { IfErr result (λ fault. GivesOne (InputFileCanGive R.can_give file) (λ input.
         IsUnopened number (input ∷ []) fault)) }
@@ -121,12 +121,12 @@ fn stream<R: Input + Drop>(
     number: usize,
     count: usize,
     reader: R,
-) -> Result<RunSource<R>, Fault>
+) -> Result<InputSource<R>, Fault>
     ensures opened { IfOk result (λ source. IsOpened R.can_give number (file_as read_as.Sorted reader) source) }
     ensures memory { IfErr result (λ fault. fault ≡ memory_fault) }
 {
     let source = FileSource::with_peers(alloc, number, reader, count)?;
-    Ok(RunSource::Streamed(source))
+    Ok(InputSource::Streamed(source))
 }
 
 /// A sorted file within a span as the source of the input `number`, which is one of `count` inputs. The call reads
@@ -138,22 +138,22 @@ fn slice<R: Input + Drop>(
     span: Span,
     outside: Outside,
     reader: R,
-) -> Result<RunSource<R>, Fault>
+) -> Result<InputSource<R>, Fault>
     ensures opened { IfOk result (λ source.
         IsOpened R.can_give number (file_as (read_as.Within span outside) reader) source) }
     ensures memory { IfErr result (λ fault. fault ≡ memory_fault) }
 {
     let within = FileSource::with_peers(alloc, number, reader, count)?;
-    Ok(RunSource::Sliced(Within::new(outside, span, number, within)))
+    Ok(InputSource::Sliced(Within::new(outside, span, number, within)))
 }
 
 /// A file of any order as the source of the input `number`. The call reads the file to its end.
-fn load<R: Input + Drop>(alloc: Global, number: usize, reader: R) -> Result<RunSource<R>, Fault>
+fn load<R: Input + Drop>(alloc: Global, number: usize, reader: R) -> Result<InputSource<R>, Fault>
     ensures opened { IfOk result (λ source. IsOpened R.can_give number (file_as read_as.Any reader) source) }
     ensures refused { IfErr result (λ fault.
         GivesOne (InputFileCanGive R.can_give (file_as read_as.Any reader)) (λ input.
         IsUnopened number (input ∷ []) fault)) }
 {
     let loaded = load_any(alloc, number, reader)?;
-    Ok(RunSource::Held(HistorySource::new(loaded.history)))
+    Ok(InputSource::Held(HistorySource::new(loaded.history)))
 }

@@ -1,6 +1,6 @@
 //! The runs of requests.
 use super::{Command, FileRequest, RequestFault};
-use crate::run::files_run::{FilesRun, Order};
+use crate::run::files_job::{FilesJob, Order};
 use osm_files::Format;
 use osm_merge::Selection;
 
@@ -48,7 +48,7 @@ fn commands_select_versions(rt: HostRuntime) {
             with_deletions,
             ..request(command)
         };
-        let run = FilesRun {
+        let run = FilesJob {
             selection,
             order: asked.order(),
             format: Format::Opl,

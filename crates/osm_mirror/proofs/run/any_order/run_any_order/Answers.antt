@@ -1,6 +1,6 @@
 use Rattle.std.proofs.lemmas.Result.{err_from_is_err_and}
 use Rattle.osm_merge.specs.Selected.{selection_of}
-use Rattle.osm_mirror.proofs.run_laws.RunLaws.{command_done, command_stops, command_at_once}
+use Rattle.osm_mirror.proofs.run_laws.JobLaws.{command_done, command_stops, command_at_once}
 use Rattle.osm_mirror.proofs.run.any_order.run_any_order.Goals as goal
 
 pub returns-clause-written : goal.returns-clause-written

@@ -3,7 +3,7 @@ use Rattle.std.proofs.lemmas.Result.{err_from_is_err_and}
 use Rattle.osm_files.specs.Change.{change_of}
 use Rattle.osm_merge.specs.Selected.{selection_of}
 use Rattle.osm_mirror.specs.run.Command.{IsWritten, IsNotWritten}
-use Rattle.osm_mirror.proofs.run_laws.RunLaws.{one_written, one_refused}
+use Rattle.osm_mirror.proofs.run_laws.JobLaws.{one_written, one_refused}
 use Rattle.osm_mirror.proofs.run.any_order.run_one.Goals as goal
 
 pub returns-clause-written : goal.returns-clause-written

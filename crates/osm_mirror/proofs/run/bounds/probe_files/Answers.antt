@@ -2,9 +2,9 @@ use Rattle.std.proofs.Common.{List, ℕ, Option, take, Bor, arith, sym, subst}
 use Rattle.std.proofs.lemmas.List.{take_all}
 use Rattle.std.proofs.lemmas.Result.{err_from_is_err_and}
 use Rattle.osm_mirror.specs.run.Probes.{FindsInAll}
-use Rattle.osm_mirror.proofs.run_laws.FilesRunLaws.{take_more}
+use Rattle.osm_mirror.proofs.run_laws.FilesJobLaws.{take_more}
 use Rattle.osm_mirror.proofs.run_laws.ProbeLaws.{all_more}
-use Rattle.osm_mirror.proofs.run_laws.SpanRunLaws.{one_refused}
+use Rattle.osm_mirror.proofs.run_laws.SpanJobLaws.{one_refused}
 use Rattle.osm_mirror.proofs.run_laws.WayLaws.{get_slice}
 use Rattle.osm_mirror.specs.run.ShardRefusal.{IsFileRefusal}
 use Rattle.osm_mirror.proofs.run.bounds.probe_files.Goals as goal

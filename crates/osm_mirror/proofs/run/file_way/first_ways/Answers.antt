@@ -1,8 +1,8 @@
 use Rattle.std.proofs.Common.{◌≡◌, ◌+◌, ◌∷◌, [], ◌++◌, length, take, arith, sym, subst}
 use Rattle.std.proofs.lemmas.Result.{err_from_is_err_and}
 use Rattle.osm_model.proofs.PairwiseLaws.{pairwise_push}
-use Rattle.osm_mirror.specs.run.FilesRun.{FileFits, FilesFit}
-use Rattle.osm_mirror.proofs.run_laws.FilesRunLaws.{take_more}
+use Rattle.osm_mirror.specs.run.FilesJob.{FileFits, FilesFit}
+use Rattle.osm_mirror.proofs.run_laws.FilesJobLaws.{take_more}
 use Rattle.osm_mirror.proofs.run_laws.WayLaws.{among_files}
 use Rattle.osm_mirror.proofs.run.file_way.first_ways.Goals as goal
 

@@ -1,5 +1,5 @@
 use Rattle.std.proofs.Common.{take}
-use Rattle.osm_mirror.specs.run.FilesRun.{FilesFit}
+use Rattle.osm_mirror.specs.run.FilesJob.{FilesFit}
 use Rattle.osm_mirror.proofs.run.file_way.first_ways.Given as goal
 
 abbrev pub invariant-files : goal.invariant-files

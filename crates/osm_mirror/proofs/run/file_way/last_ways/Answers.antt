@@ -1,10 +1,10 @@
 use Rattle.std.proofs.Common.{◌≡◌, sym, subst, ◌∙◌}
 use Rattle.std.proofs.lemmas.Bool.{false≢true}
 use Rattle.std.proofs.lemmas.Result.{IfOk-weaker, IfErr-weaker}
-use Rattle.osm_mirror.specs.declared.run.files_run.Order.{Order}
-use Rattle.osm_mirror.specs.declared.run.files_run.Order.TheVariants.{Any, Sorted}
+use Rattle.osm_mirror.specs.declared.run.files_job.Order.{Order}
+use Rattle.osm_mirror.specs.declared.run.files_job.Order.TheVariants.{Any, Sorted}
 use Rattle.osm_mirror.specs.run.FilesRefusal.{AreRefused}
-use Rattle.osm_mirror.specs.run.FilesRun.{FilesFit}
+use Rattle.osm_mirror.specs.run.FilesJob.{FilesFit}
 use Rattle.osm_mirror.proofs.run_laws.TurnLaws.{sorted_settled}
 use Rattle.osm_mirror.proofs.run_laws.WayLaws.{not_any}
 use Rattle.osm_mirror.proofs.run.file_way.last_ways.Goals as goal

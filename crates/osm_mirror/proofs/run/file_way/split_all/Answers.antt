@@ -1,6 +1,6 @@
 use Rattle.std.proofs.Common.{length, arith, ap, sym, subst, refl}
-use Rattle.osm_mirror.specs.declared.run.files_run.Order.TheVariants.{Any}
-use Rattle.osm_mirror.specs.run.FilesRun.{FilesFit}
+use Rattle.osm_mirror.specs.declared.run.files_job.Order.TheVariants.{Any}
+use Rattle.osm_mirror.specs.run.FilesJob.{FilesFit}
 use Rattle.osm_mirror.proofs.run_laws.WayLaws.{back_fits, back_settled}
 use Rattle.osm_mirror.proofs.run.file_way.split_all.Goals as goal
 

@@ -1,10 +1,10 @@
 use Rattle.std.proofs.Common.{◌≡◌, false, inr, List, IfSome, refl, sym, subst}
 use Rattle.std.proofs.lemmas.Result.{IfOk-weaker}
 use Rattle.osm_mirror.specs.declared.run.file_way.FileWay.{FileWay}
-use Rattle.osm_mirror.specs.declared.run.files_run.Order.TheVariants.{Any, Sorted}
-use Rattle.osm_mirror.specs.declared.run.files_run.RunFile.{RunFile}
+use Rattle.osm_mirror.specs.declared.run.files_job.Order.TheVariants.{Any, Sorted}
+use Rattle.osm_mirror.specs.declared.run.files_job.JobFile.{JobFile}
 use Rattle.osm_mirror.specs.run.FilesRefusal.{IsFirstIn}
-use Rattle.osm_mirror.specs.run.FilesRun.{FileFits}
+use Rattle.osm_mirror.specs.run.FilesJob.{FileFits}
 use Rattle.osm_mirror.proofs.run_laws.WayLaws.{runs_sorted, runs_fit, held_fits}
 use Rattle.osm_mirror.proofs.run.file_way.split_file.Goals as goal
 
@@ -15,8 +15,8 @@ returns-in-Some-clause-fits g c =
     let size = c.in_ok-size.size in
     let long = c.in_ok-size.ensures.size in
     let way : FileWay = record { order = Sorted; runs = c.in-Some.runs; size = size; may_be_split = false } in
-    let right = subst (λ (x : RunFile _ _). IfSome c.args.first (IsFirstIn bytes x)) c.in-File.is c.requires.first in
-    subst (λ (x : RunFile _ _). FileFits bytes Any x way) (sym c.in-File.is) (
+    let right = subst (λ (x : JobFile _ _). IfSome c.args.first (IsFirstIn bytes x)) c.in-File.is c.requires.first in
+    subst (λ (x : JobFile _ _). FileFits bytes Any x way) (sym c.in-File.is) (
       inr (inr (
         refl,
         (
@@ -34,6 +34,6 @@ returns-in-None-clause-fits g c =
     let bytes = g.F.ReadAt.bytes in
     let known = bytes c.in-File.file.now in
     IfOk-weaker c.whole-in-None.result _ _
-    (λ way read. subst (λ (x : RunFile _ _). FileFits bytes Any x way) (sym c.in-File.is)
+    (λ way read. subst (λ (x : JobFile _ _). FileFits bytes Any x way) (sym c.in-File.is)
     (held_fits known c.in_ok-size.size way c.in_ok-size.ensures.short c.in_ok-size.ensures.size read))
     c.whole-in-None.ensures.whole

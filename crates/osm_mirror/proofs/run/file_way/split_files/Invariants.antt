@@ -1,8 +1,8 @@
 use Rattle.std.proofs.Common.{◌≡◌, length, take}
 use Rattle.osm_mirror.specs.declared.run.file_way.FilesToSplit.TheVariants as to_split
-use Rattle.osm_mirror.specs.declared.run.files_run.Order.TheVariants.{Any}
+use Rattle.osm_mirror.specs.declared.run.files_job.Order.TheVariants.{Any}
 use Rattle.osm_mirror.specs.run.FilesRefusal.{AreSettled}
-use Rattle.osm_mirror.specs.run.FilesRun.{FilesFit}
+use Rattle.osm_mirror.specs.run.FilesJob.{FilesFit}
 use Rattle.osm_mirror.proofs.run.file_way.split_files.Given as goal
 
 abbrev pub invariant-files : goal.invariant-files

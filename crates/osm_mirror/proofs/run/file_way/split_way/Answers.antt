@@ -1,8 +1,8 @@
 use Rattle.std.proofs.Common.{arith}
 use Rattle.std.proofs.lemmas.Result.{err_from_is_err_and}
-use Rattle.osm_mirror.specs.declared.run.files_run.Order.TheVariants.{Any}
-use Rattle.osm_mirror.specs.run.FilesRun.{FileFits}
-use Rattle.osm_mirror.proofs.run_laws.FilesRunLaws.{pairwise_length, pairwise_set}
+use Rattle.osm_mirror.specs.declared.run.files_job.Order.TheVariants.{Any}
+use Rattle.osm_mirror.specs.run.FilesJob.{FileFits}
+use Rattle.osm_mirror.proofs.run_laws.FilesJobLaws.{pairwise_length, pairwise_set}
 use Rattle.osm_mirror.proofs.run_laws.WayLaws.{get_slice, first_at, among_files}
 use Rattle.osm_mirror.proofs.run.file_way.split_way.Goals as goal
 

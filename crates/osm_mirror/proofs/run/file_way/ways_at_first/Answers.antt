@@ -1,7 +1,7 @@
 use Rattle.std.proofs.Common.{◌≡◌, length, arith, ap, sym, subst}
-use Rattle.osm_mirror.specs.declared.run.files_run.Order.{Order}
-use Rattle.osm_mirror.specs.declared.run.files_run.Order.TheVariants.{Any}
-use Rattle.osm_mirror.specs.run.FilesRun.{FilesFit}
+use Rattle.osm_mirror.specs.declared.run.files_job.Order.{Order}
+use Rattle.osm_mirror.specs.declared.run.files_job.Order.TheVariants.{Any}
+use Rattle.osm_mirror.specs.run.FilesJob.{FilesFit}
 use Rattle.osm_mirror.proofs.run_laws.WayLaws.{back_fits}
 use Rattle.osm_mirror.proofs.run.file_way.ways_at_first.Goals as goal
 

@@ -2,9 +2,9 @@ use Rattle.std.proofs.Common.{◌≡◌, ◌∙◌, ◌+◌, ◌-◌, ◌∷◌,
 use Rattle.osm_files.specs.declared.fault.Fault.{Fault}
 use Rattle.osm_files.specs.Fault.{fault_at}
 use Rattle.osm_mirror.specs.declared.run.file_way.FileWay.{FileWay}
-use Rattle.osm_mirror.specs.run.FilesRun.{fault_in_run_or, fault_in_files}
+use Rattle.osm_mirror.specs.run.FilesJob.{fault_in_run_or, fault_in_files}
 use Rattle.osm_mirror.proofs.run_laws.FilesRefusalLaws.{none_after}
-use Rattle.osm_mirror.proofs.run_laws.FilesRunLaws.{drop_one}
+use Rattle.osm_mirror.proofs.run_laws.FilesJobLaws.{drop_one}
 use Rattle.osm_mirror.proofs.run_laws.WayLaws.{get_slice}
 use Rattle.osm_mirror.proofs.run.files_turn.fault_of_file.Goals as goal
 

@@ -1,5 +1,5 @@
 use Rattle.std.proofs.Common.{◌≡◌, drop}
-use Rattle.osm_mirror.specs.run.FilesRun.{fault_in_files}
+use Rattle.osm_mirror.specs.run.FilesJob.{fault_in_files}
 use Rattle.osm_mirror.proofs.run.files_turn.fault_of_file.Given as goal
 
 abbrev pub invariant-files : goal.invariant-files

@@ -9,10 +9,10 @@ use Rattle.std.proofs.lemmas.Iterator.Consumers.{YieldsList-end}
 use Rattle.std.proofs.lemmas.List.{map-append}
 use Rattle.osm_files.specs.FileInput.{FileInputCanGive}
 use Rattle.osm_mirror.specs.declared.run.file_way.FileWay.{FileWay}
-use Rattle.osm_mirror.specs.declared.run.files_run.Order.TheVariants.{Sorted}
-use Rattle.osm_mirror.specs.declared.run.files_run.RunFile.{RunFile}
-use Rattle.osm_mirror.specs.run.FilesRun.{OpensFiles}
-use Rattle.osm_mirror.proofs.run_laws.FilesRunLaws.{zip_firsts, zip_seconds, firsts_of, seconds_of, pairs_long, opens_more}
+use Rattle.osm_mirror.specs.declared.run.files_job.Order.TheVariants.{Sorted}
+use Rattle.osm_mirror.specs.declared.run.files_job.JobFile.{JobFile}
+use Rattle.osm_mirror.specs.run.FilesJob.{OpensFiles}
+use Rattle.osm_mirror.proofs.run_laws.FilesJobLaws.{zip_firsts, zip_seconds, firsts_of, seconds_of, pairs_long, opens_more}
 use Rattle.osm_mirror.proofs.run.files_turn.open_files.Goals as goal
 
 pub files-preserved : goal.files-preserved

@@ -1,6 +1,6 @@
 use Rattle.std.proofs.Common.{map}
 use Rattle.osm_files.specs.FileInput.{FileInputCanGive}
-use Rattle.osm_mirror.specs.run.FilesRun.{OpensFiles}
+use Rattle.osm_mirror.specs.run.FilesJob.{OpensFiles}
 use Rattle.osm_mirror.proofs.run.files_turn.open_files.Given as goal
 
 abbrev pub invariant-files : goal.invariant-files

@@ -6,8 +6,8 @@ use Rattle.osm_files.specs.declared.file_input.FileInput.TheVariants.{Extent}
 use Rattle.osm_files.specs.declared.sorted_run.SortedRun.{SortedRun}
 use Rattle.osm_files.specs.FileInput.{FileInputCanGive}
 use Rattle.osm_mirror.specs.declared.run.input.InputFile.{InputFile}
-use Rattle.osm_mirror.specs.run.FilesRun.{OpensRun}
-use Rattle.osm_mirror.proofs.run_laws.FilesRunLaws.{take_more}
+use Rattle.osm_mirror.specs.run.FilesJob.{OpensRun}
+use Rattle.osm_mirror.proofs.run_laws.FilesJobLaws.{take_more}
 use Rattle.osm_mirror.proofs.run.files_turn.push_runs.Goals as goal
 
 pub runs-preserved : goal.runs-preserved

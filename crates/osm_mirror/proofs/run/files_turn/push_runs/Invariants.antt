@@ -2,7 +2,7 @@ use Rattle.std.proofs.Common.{◌≡◌, List, ◌++◌, take}
 use Rattle.osm_model.specs.Pairwise.{Pairwise}
 use Rattle.osm_files.specs.FileInput.{FileInputCanGive}
 use Rattle.osm_mirror.specs.declared.run.input.InputFile.{InputFile}
-use Rattle.osm_mirror.specs.run.FilesRun.{OpensRun}
+use Rattle.osm_mirror.specs.run.FilesJob.{OpensRun}
 use Rattle.osm_mirror.proofs.run.files_turn.push_runs.Given as goal
 
 abbrev pub invariant-runs : goal.invariant-runs

@@ -1,5 +1,5 @@
 use Rattle.std.proofs.lemmas.Result.{err_from_is_err_and, IfOk-weaker, IfErr-weaker}
-use Rattle.osm_mirror.proofs.run_laws.RunLaws.{merge_done, merge_stops, merge_at_once}
+use Rattle.osm_mirror.proofs.run_laws.JobLaws.{merge_done, merge_stops, merge_at_once}
 use Rattle.osm_mirror.proofs.run.merge.run_merge.Goals as goal
 
 pub returns-in_err-files-clause-refused : goal.returns-in_err-files-clause-refused

@@ -1,5 +1,5 @@
 use Rattle.std.proofs.lemmas.Result.{err_from_is_err_and, IfOk-weaker, IfErr-weaker}
-use Rattle.osm_mirror.proofs.run_laws.RunLaws.{slice_done, slice_stops, slice_at_once}
+use Rattle.osm_mirror.proofs.run_laws.JobLaws.{slice_done, slice_stops, slice_at_once}
 use Rattle.osm_mirror.proofs.run.slice.run_slice.Goals as goal
 
 pub returns-in_err-files-clause-refused : goal.returns-in_err-files-clause-refused
