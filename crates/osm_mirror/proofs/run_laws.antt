@@ -7,6 +7,7 @@ mod CheckLaws
 mod UnionOfLaws
 mod SortedRunLaws
 mod FilesJobLaws
+mod InputRefusalLaws
 mod FilesRefusalLaws
 mod FilesGoodLaws
 mod WayLaws

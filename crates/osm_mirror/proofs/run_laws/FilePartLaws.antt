@@ -50,7 +50,7 @@ use Rattle.osm_mirror.specs.run.ShardPart.{lines_between, IsFilePart, IsPartOf, 
 use Rattle.osm_mirror.specs.run.Merge.{GivesSorted}
 use Rattle.osm_mirror.specs.run.ShardRefusal.{IsFileRefusal}
 use Rattle.osm_mirror.specs.run.SliceJob.{given_slice, IsPartRead, HasSlice, GivesSlice}
-use Rattle.osm_mirror.proofs.run_laws.FilesRefusalLaws.{has_number}
+use Rattle.osm_mirror.proofs.run_laws.InputRefusalLaws.{has_number}
 use Rattle.osm_mirror.specs.declared.run.files_job.Order.TheVariants.{Sorted}
 use Rattle.osm_mirror.proofs.run_laws.ShardPartLaws.{part_holds, part_rises, within_itself}
 use Rattle.osm_mirror.proofs.run_laws.ProbeLaws.{opl_is, opl_starts, opl_file, probe_refuses}

@@ -50,7 +50,8 @@ use Rattle.osm_mirror.specs.run.Merge.{GivesSorted}
 use Rattle.osm_mirror.specs.run.Job.{union_of}
 use Rattle.osm_mirror.specs.run.SelectedJob.{RefusesJob, IsJobRefused}
 use Rattle.osm_mirror.specs.run.SortedRuns.{SortedRunsHoldTheFile}
-use Rattle.osm_mirror.proofs.run_laws.FilesRefusalLaws.{SomeRefused, refused_at, unread_refused, fault_found, output_found, memory_found}
+use Rattle.osm_mirror.proofs.run_laws.FilesRefusalLaws.{fault_found, output_found, memory_found}
+use Rattle.osm_mirror.proofs.run_laws.InputRefusalLaws.{SomeRefused, refused_at, unread_refused}
 use Rattle.osm_mirror.proofs.run_laws.FilesRefusalLaws.{Found}
 use Rattle.osm_mirror.proofs.run_laws.FilesRefusalLaws.{stream_gave}
 use Rattle.osm_mirror.proofs.run_laws.FilesJobLaws.{cut, as_pairs, as_given, as_any, pairwise_length}

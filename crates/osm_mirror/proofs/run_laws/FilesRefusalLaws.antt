@@ -1,37 +1,32 @@
 -- Why a run over files is refused: the faults of its inputs are those of its files.
-use Rattle.std.proofs.Common.{◌≡◌, ◌⊎◌, inl, inr, ⊎_elim, ℕ, zero, suc, ◌+◌, ◌-◌, ◌<◌, ◌≤◌, ◌^◌, Bool, true, false, List, [], ◌∷◌, ◌++◌}
-use Rattle.std.proofs.Common.{length, map, take, Option, Some, None, IfSome, slice_get, refl, sym, ap, ◌∙◌, subst, arith, append_assoc}
-use Rattle.std.proofs.Common.{option_map, length-append, Bor}
+use Rattle.std.proofs.Common.{◌≡◌, ◌⊎◌, inl, inr, ⊎_elim, ℕ, zero, suc, ◌+◌, ◌-◌, ◌<◌, ◌≤◌, ◌^◌, true, List, [], ◌∷◌, ◌++◌}
+use Rattle.std.proofs.Common.{length, Option, Some, None, IfSome, slice_get, refl, sym, ap, ◌∙◌, subst, arith, append_assoc}
+use Rattle.std.proofs.Common.{length-append, Bor}
 use Rattle.std.specs.List.{All}
 use Rattle.std.proofs.lemmas.Bool.{false≢true}
 use Rattle.std.proofs.lemmas.List.Elements.{All-head, All-tail}
 use Rattle.osm_model.specs.VersionSet.{VersionSet}
 use Rattle.osm_model.specs.Pairwise.{Pairwise}
 use Rattle.osm_files.specs.declared.fault.Fault.{Fault}
-use Rattle.osm_files.specs.declared.format.Format.{Format}
 use Rattle.osm_files.specs.declared.reason.Reason.{Reason}
 use Rattle.osm_files.specs.declared.reason.Reason.TheVariants.{Memory, Opl, O5, BadHeader, Unsorted, NoEnd, AfterEnd}
 use Rattle.osm_files.specs.declared.reason.Reason.TheVariants.{TooLong, ReadFault, WriteFault, Failed}
 use Rattle.osm_files.specs.declared.sorted_run.SortedRun.{SortedRun}
 use Rattle.osm_files.specs.Extent.{RunCanGive}
-use Rattle.osm_files.specs.Fault.{fault_at, memory_fault, IsOfFile}
+use Rattle.osm_files.specs.Fault.{fault_at, memory_fault}
 use Rattle.osm_files.specs.FileRuns.{IsAccepted, IsSortedRun, IsReadFailure, IsRefusalOf, IsFirstUnsorted}
 use Rattle.osm_files.specs.Groups.{sorted_source}
-use Rattle.osm_files.specs.Held.{Holds, HoldsSorted}
+use Rattle.osm_files.specs.Held.{HoldsSorted}
 use Rattle.osm_files.specs.Input.{InputRest}
 use Rattle.osm_files.specs.LoadLaws.{is_verdict_reason}
-use Rattle.osm_files.specs.Position.{units_from, with_input, fault_of}
 use Rattle.osm_files.specs.SortedRun.{run_bytes, whole_run, offset_in_file}
-use Rattle.osm_files.specs.SourceLaws.{input_verdict}
 use Rattle.osm_files.specs.Stream.{Verdict, verdict_at}
-use Rattle.osm_files.specs.Verdict.{verdict_sorted, versions_of}
+use Rattle.osm_files.specs.Verdict.{verdict_sorted}
 use Rattle.osm_files.proofs.FileLaws.{sorted_files_are_read}
-use Rattle.osm_files.proofs.HoldLaws.{source_refusal}
 use Rattle.osm_files.proofs.LoadFaults.{reasons_of_verdicts}
 use Rattle.osm_files.proofs.RunOrderLaws.{Refuses, run_refuses, units_refuse, verdict_refuses}
 use Rattle.osm_files.proofs.SplitLaws.{whole_file}
 use Rattle.osm_merge.specs.Giving.{AllGive}
-use Rattle.osm_merge.specs.ToCome.{rest_at}
 use Rattle.osm_mirror.specs.declared.run.file_way.FileWay.{FileWay}
 use Rattle.osm_mirror.specs.declared.run.files_job.JobFile.{JobFile}
 use Rattle.osm_mirror.specs.declared.run.files_job.JobFile.TheVariants.{File, Stream}
@@ -39,71 +34,12 @@ use Rattle.osm_mirror.specs.declared.run.files_job.Order.{Order}
 use Rattle.osm_mirror.specs.declared.run.files_job.Order.TheVariants.{Sorted, Any}
 use Rattle.osm_mirror.specs.declared.run.input.InputFile.{InputFile}
 use Rattle.osm_mirror.specs.declared.run.input.ReadAs.{ReadAs}
-use Rattle.osm_mirror.specs.declared.run.input.ReadAs.TheVariants as read_as
-use Rattle.osm_mirror.specs.run.FilesRefusal.{IsFaultOfBytes, IsFaultOf, IsFaultInWay, IsFaultInWays, IsSizeFault}
+use Rattle.osm_mirror.specs.run.FilesRefusal.{IsFaultOfBytes, IsFaultInWay}
 use Rattle.osm_mirror.specs.run.FilesJob.{read_as_of, IsAsRequired, IsWayOf, FitsBytes, FileFits, FilesFit, OpensRun, OpensFile, OpensFiles}
-use Rattle.osm_mirror.specs.run.FilesJob.{fault_in_run, fault_in_run_or, fault_in_files}
-use Rattle.osm_mirror.specs.run.Given.{InputFileCanGive, source_of, held_source, whole_or_refused, refusal, CannotBeRead, IsUnread, sources}
-use Rattle.osm_mirror.proofs.run_laws.FilesJobLaws.{cut, Cut, as_pairs, as_given}
-
--- ---- the faults of inputs
--- one of these inputs is refused with this fault; the inputs are numbered from `number` on
-abbrev pub SomeRefused : ℕ → List (ReadAs × InputRest) → Fault → Type 0
-SomeRefused number [] fault = ⊥
-SomeRefused number (x ∷ xs) fault = ((source_of number x).refusal ≡ Some fault) ⊎ SomeRefused (number + 1) xs fault
-
-pub refused_at : (number : ℕ) (inputs : List (ReadAs × InputRest)) (place : ℕ) (fault : Fault) → place < length (sources number inputs)
-    → (rest_at (sources number inputs) place).refusal ≡ Some fault → SomeRefused number inputs fault
-refused_at number [] place fault low e = absurd (omega (arith, low))
-refused_at number (x ∷ xs) zero fault low e = inl e
-refused_at number (x ∷ xs) (suc k) fault low e = inr (refused_at (number + 1) xs k fault (omega (arith, low)) e)
-
-cannot_read : (number : ℕ) (x : ReadAs × InputRest) (fault : Fault) → CannotBeRead number x fault
-    → (source_of number x).refusal ≡ Some fault
-unfolding held_source
-cannot_read number (read_as.Sorted, c) fault u = absurd u
-cannot_read number (read_as.Any, c) fault u =
-    ap (λ r. (whole_or_refused r (versions_of (with_input number (units_from None 0 c)).list)).refusal) u
-cannot_read number (read_as.Within span outside, c) fault u = absurd u
-
-pub unread_refused : (number : ℕ) (inputs : List (ReadAs × InputRest)) (fault : Fault) → IsUnread number inputs fault
-    → SomeRefused number inputs fault
-unread_refused number [] fault u = absurd u
-unread_refused number (x ∷ xs) fault (inl one) = inl (cannot_read number x fault one)
-unread_refused number (x ∷ xs) fault (inr more) = inr (unread_refused (number + 1) xs fault more)
-
--- one of two lists of inputs in sequence
-some_of_both : (number : ℕ) (xs ys : List (ReadAs × InputRest)) (fault : Fault) → SomeRefused number (xs ++ ys) fault
-    → SomeRefused number xs fault ⊎ SomeRefused (number + length xs) ys fault
-some_of_both number [] ys fault s =
-    let same : number + 0 ≡ number = omega arith in inr (subst (λ (n : ℕ). SomeRefused n ys fault) (sym same) s)
-some_of_both number (x ∷ xs) ys fault (inl one) = inl (inl one)
-some_of_both number (x ∷ xs) ys fault (inr more) =
-    let same : number + 1 + length xs ≡ number + suc (length xs) = omega arith in
-    ⊎_elim (λ first. inl (inr first)) (λ second. inr (subst (λ (n : ℕ). SomeRefused n ys fault) same second))
-    (some_of_both (number + 1) xs ys fault more)
-
--- ---- the fault of one input
-held_refused : (r : Option Fault) (versions : _) (fault : Fault) → (whole_or_refused r versions).refusal ≡ Some fault → r ≡ Some fault
-held_refused None versions fault e = absurd (let f : None ≡ Some fault = e in cc)
-held_refused (Some found) versions fault e = e
-
-any_refused : (number : ℕ) (c : InputRest) (fault : Fault) → (held_source number c).refusal ≡ Some fault → refusal number c ≡ Some fault
-unfolding held_source
-any_refused number c fault e =
-    let units = with_input number (units_from None 0 c) in held_refused units.refusal (versions_of units.list) fault e
-
-fault_has : (number : ℕ) (v : Option Verdict) (fault : Fault) → option_map (fault_of number) v ≡ Some fault → fault.input ≡ number
-fault_has number None fault e = absurd (let f : None ≡ Some fault = e in cc)
-fault_has number (Some w) fault e =
-    let same : fault_of number w ≡ fault = (let f : Some (fault_of number w) ≡ Some fault = e in cc) in ap (λ f. f.input) (sym same)
-
--- the fault of an input has its number
-pub has_number : (order : Order) (number : ℕ) (c : InputRest) (fault : Fault)
-    → (source_of number (read_as_of order, c)).refusal ≡ Some fault
-    → fault.input ≡ number
-has_number Sorted number c fault e = fault_has number (input_verdict c) fault (sym (source_refusal number c) ∙ e)
-has_number Any number c fault e = fault_has number (units_from None 0 c).refusal fault (any_refused number c fault e)
+use Rattle.osm_mirror.specs.run.FilesJob.{fault_in_run_or, fault_in_files}
+use Rattle.osm_mirror.specs.run.Given.{InputFileCanGive, source_of, refusal}
+use Rattle.osm_mirror.proofs.run_laws.FilesJobLaws.{cut, as_pairs, as_given}
+use Rattle.osm_mirror.proofs.run_laws.InputRefusalLaws.{SomeRefused, some_of_both, any_refused, has_number}
 
 -- ---- the fault of a run
 -- a fault of the file `number` that isn't out of memory
