@@ -63,7 +63,7 @@ run_front Fails all run size bytes (given, gives, is) =
     )
 
 -- ---- the verdict on order
-mapped_fault : (input : ℕ) (v : Option Verdict) (fault : Fault) → option_map (fault_of input) v ≡ Some fault
+pub mapped_fault : (input : ℕ) (v : Option Verdict) (fault : Fault) → option_map (fault_of input) v ≡ Some fault
     → (w : Verdict) × (v ≡ Some w) × (fault ≡ fault_of input w)
 mapped_fault input None fault e = absurd (let f : None ≡ Some fault = e in cc)
 mapped_fault input (Some w) fault e = (w, refl, (let f : fault_of input w ≡ fault = cc in sym f))

@@ -15,6 +15,7 @@ use Rattle.osm_merge.specs.Selected.{selection_of}
 use Rattle.osm_merge.specs.Pass.{passes, keeps, stays, singleton_if, versions_that_stay, settled_versions}
 use Rattle.osm_merge.proofs.PassLaws.{kept_end, settled_next}
 use Rattle.osm_merge.proofs.SelectedLaws.{passing_is, pass_of_set}
+use Rattle.osm_files.proofs.HoldLaws.{set_listed}
 
 -- those of the first `place` versions of a list that pass
 abbrev pub met_of : Selection → List VersionData → ℕ → List VersionData
@@ -109,12 +110,6 @@ module _ (selection : Selection) (list : List VersionData) (place : ℕ) (w : Ve
       → IsChoosing selection list (place + 1) pending2 chosen2
   choose_next pending pending2 before v chosen chosen2 i pass some is now more =
       rw (now, more) (next_passes before v chosen (subst (λ (h : Option ℕ). IsChoosing selection list place h chosen) some i) pass is)
-
--- A set is the set of its list.
-pub set_listed : (s : VersionSet) → from_list {R = version_cmp} (to_list s) ≡ s
-set_listed s =
-    same_set version_cmp_total version_cmp-IsAntisymmetric (from_list (to_list s)) s
-    (λ v. contains-from_list version_cmp_total (to_list s) v ∙ sym (contains-listed {R = version_cmp} s v))
 
 -- all versions were read
 module _ (selection : Selection) (s : VersionSet) (place : ℕ) (whole : length (to_list s) ≤ place) where

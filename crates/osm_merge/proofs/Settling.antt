@@ -19,7 +19,7 @@ use Rattle.osm_merge.proofs.AscendingLaws.{one_ascends, first_below, rest_ascend
 use Rattle.osm_merge.proofs.PassLaws.{keep_all, kept_end, settled_next}
 
 -- ---- the output of a pass ascends
-all_append : {K : Type 0} (P : K → Type 0) (xs ys : List K) → AllByRecursion P xs → AllByRecursion P ys → AllByRecursion P (xs ++ ys)
+pub all_append : {K : Type 0} (P : K → Type 0) (xs ys : List K) → AllByRecursion P xs → AllByRecursion P ys → AllByRecursion P (xs ++ ys)
 all_append P [] ys h k = k
 all_append P (x ∷ xs) ys h k = (h.0, all_append P xs ys h.1 k)
 

@@ -30,14 +30,12 @@ use Rattle.osm_mirror.specs.fleet.Fleet.{mirror_at, AreOwnSnapshots, mirrors_aft
 use Rattle.osm_mirror.specs.fleet.Fleet.{Track}
 use Rattle.osm_mirror.specs.fleet.Fleet.{is_full, first_track}
 use Rattle.osm_mirror.specs.fleet.Fleet.{with_track, tracks_after, tracks_after_all, set_of, union_of_sources, IsPart, HoldsOf, Converges}
+use Rattle.osm_files.proofs.SpellLaws.{or_grouped}
+use Rattle.osm_files.proofs.SpellLaws.{equal_sets}
 
 -- ---- sets
 pub in_union : (s t : VersionSet) (v : VersionData) → contains (union s t) v ≡ (contains s v || contains t v)
 in_union s t v = contains-union version_cmp_total s t v
-
--- Two sets with the same members are equal.
-pub equal_sets : (s t : VersionSet) → ((v : VersionData) → contains s v ≡ contains t v) → s ≡ t
-equal_sets s t h = same_set version_cmp_total version_cmp-IsAntisymmetric s t h
 
 -- The empty set has no member.
 pub in_none : (v : VersionData) → contains {R = version_cmp} empty v ≡ false
@@ -48,10 +46,6 @@ or_turned true true = refl
 or_turned true false = refl
 or_turned false true = refl
 or_turned false false = refl
-
-or_grouped : (a b c : Bool) → ((a || b) || c) ≡ (a || (b || c))
-or_grouped true b c = refl
-or_grouped false b c = refl
 
 turned_union : (s t : VersionSet) → union s t ≡ union t s
 turned_union s t = equal_sets _ _ (λ v. in_union s t v ∙ or_turned (contains s v) (contains t v) ∙ sym (in_union t s v))

@@ -20,27 +20,18 @@ use Rattle.osm_files.proofs.SpellLaws.{held_are_versions, held_is_one_set, spell
 use Rattle.osm_merge.proofs.UnionAllLaws.{some_has}
 use Rattle.osm_mirror.specs.run.Job.{union_of}
 use Rattle.osm_mirror.specs.fleet.Merges.{Inputs, none, file, merged, files_of, Hold, MergesOfTheSameFiles}
+use Rattle.osm_files.proofs.SpellLaws.{or_grouped as or_assoc}
+use Rattle.osm_files.proofs.SpellLaws.{either}
+use Rattle.osm_merge.proofs.SnapLaws.{or_right}
 
 -- ---- the members of the union of the sets
 pub or_false : (b : Bool) → b ≡ (b || false)
 or_false true = refl
 or_false false = refl
 
-or_assoc : (a b c : Bool) → ((a || b) || c) ≡ (a || (b || c))
-or_assoc true b c = refl
-or_assoc false b c = refl
-
 or_left : (a b : Bool) → a ≡ true → (a || b) ≡ true
 or_left true b e = refl
 or_left false b e = absurd (false≢true e)
-
-or_right : (a b : Bool) → b ≡ true → (a || b) ≡ true
-or_right true b e = refl
-or_right false b e = e
-
-either : (a b : Bool) → (a || b) ≡ true → (a ≡ true) ⊎ (b ≡ true)
-either true b e = inl refl
-either false b e = inr e
 
 in_fold : (before : VersionSet) (sets : List VersionSet) (v : VersionData) →
     contains (fold union before sets) v ≡ (contains before v || some_has sets v)
@@ -61,7 +52,7 @@ fold_in_range before (s ∷ sets) valid all = fold_in_range (union before s) set
     (unions_are_versions before s valid (All-head AreVersions s sets all)) (All-tail AreVersions s sets all)
 
 -- ---- the sets of inputs are those of their files
-as_held : (bytes : List ℕ) (set : VersionSet) → HoldsSorted bytes set → Holds bytes set
+pub as_held : (bytes : List ℕ) (set : VersionSet) → HoldsSorted bytes set → Holds bytes set
 as_held bytes set h = record { short = h.short; versions = h.versions; file = h.file; members = h.members }
 
 held_in_range : (inputs : Inputs) (held : List VersionSet) → Hold inputs held → All AreVersions held

@@ -28,7 +28,9 @@ use Rattle.osm_mirror.specs.declared.fleet.keep.Keep.TheVariants.{Full, Latest}
 use Rattle.osm_mirror.specs.fleet.Mirror.{MirrorData, kept_part, after_taking, new_mirror, IsMirror, TakesFile, WhyNotTaken, WhyNotSpelled}
 use Rattle.std.specs.Prelude.{slice_set}
 use Rattle.osm_mirror.specs.fleet.Fleet.{mirror_at, IsShort}
-use Rattle.osm_mirror.proofs.fleet_laws.FleetLaws.{snapshot_part, took_kept, fresh_kept, in_none, equal_sets}
+use Rattle.osm_mirror.proofs.fleet_laws.FleetLaws.{snapshot_part, took_kept, fresh_kept, in_none}
+use Rattle.osm_files.proofs.SpellLaws.{equal_sets}
+use Rattle.osm_files.proofs.RunOrderLaws.{mapped_fault as some_fault}
 
 within_limit : (count n : ℕ) → count ≡ n → count < 2 ^ 64 → count ≡ capped_count n
 within_limit count n is below = omega (arith, is, below)
@@ -103,12 +105,6 @@ takes_file bytes given old new loaded count same h is counted below =
       count =
           within_limit count (size (held_by bytes)) whole_count below;
     }
-
--- a file that isn't accepted is refused with its verdict
-some_fault : (input : ℕ) (v : Option Verdict) (fault : Fault) → option_map (fault_of input) v ≡ Some fault
-    → (w : Verdict) × (v ≡ Some w) × (fault ≡ fault_of input w)
-some_fault input None fault e = absurd cc
-some_fault input (Some w) fault e = (w, refl, sym (some_same e))
 
 -- A file that isn't loaded is refused with its verdict or Memory.
 pub not_loaded : (bytes : List ℕ) (fault : Fault) → StopsLoading 0 (whole_input bytes) fault → WhyNotTaken bytes fault

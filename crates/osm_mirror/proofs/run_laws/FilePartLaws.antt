@@ -41,7 +41,8 @@ use Rattle.osm_merge.specs.declared.within.Outside.TheVariants.{Dropped, Refused
 use Rattle.osm_merge.specs.Slice.{slice_of, is_within, is_under, is_ascending, IsWithin}
 use Rattle.osm_merge.specs.ToCome as source
 use Rattle.osm_merge.specs.Within.{up_to, from_bound, stray_fault}
-use Rattle.osm_merge.proofs.SliceLaws.{equal, kept_in, under_down, none_after}
+use Rattle.osm_merge.proofs.SliceLaws.{kept_in, under_down, none_after}
+use Rattle.osm_files.proofs.SpellLaws.{equal_sets as equal}
 use Rattle.osm_mirror.specs.declared.run.shard_part.FilePart.{FilePart}
 use Rattle.osm_mirror.specs.run.Bounds.{is_opl}
 use Rattle.std.proofs.Common.{Result, Ok, Err, IfOk}
@@ -54,6 +55,7 @@ use Rattle.osm_mirror.proofs.run_laws.InputRefusalLaws.{has_number}
 use Rattle.osm_mirror.specs.declared.run.files_job.Order.TheVariants.{Sorted}
 use Rattle.osm_mirror.proofs.run_laws.ShardPartLaws.{part_holds, part_rises, within_itself}
 use Rattle.osm_mirror.proofs.run_laws.ProbeLaws.{opl_is, opl_starts, opl_file, probe_refuses}
+use Rattle.osm_mirror.proofs.fleet_laws.MergesLaws.{as_held}
 
 -- ---- the part of a file
 pub lines_part : (known : Option (List ℕ)) (span : Span) (size_is start end : ℕ) → BeginsAs known 0 false →
@@ -226,9 +228,6 @@ whole_bytes all short = append-nil (take (2 ^ 64 - 1) all) ∙ take_all (2 ^ 64 
 
 lines_bytes : (all : List ℕ) (start end : ℕ) → run_bytes (lines_between start end) all ≡ take (end - start) (drop start all)
 lines_bytes all start end = append-nil (take (end - start) (drop start all))
-
-as_held : (bytes : List ℕ) (set : VersionSet) → HoldsSorted bytes set → Holds bytes set
-as_held bytes set h = record { short = h.short; versions = h.versions; file = h.file; members = h.members }
 
 -- what the part of a sorted file holds: the slice, or all of the file
 module _ (span : Span) (all : List ℕ) (part : FilePart) (set : VersionSet) where

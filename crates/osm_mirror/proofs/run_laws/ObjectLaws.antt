@@ -17,31 +17,11 @@ use Rattle.osm_model.proofs.SetLaws.{strict-listed}
 use Rattle.osm_model.proofs.VersionLaws.{to_list-view}
 use Rattle.osm_merge.specs.Pass.{same_object}
 use Rattle.osm_merge.specs.Selected.{beats}
+use Rattle.osm_merge.proofs.OrderLaws.{no_more}
 use Rattle.osm_mirror.specs.run.Check.{new_objects, objects_after, object_count}
-
--- a list that ascends by two orders doesn't fall by the first
-not_falling : (a b : Ordering) → is_gt (ordering_then a b) ≡ false → is_gt a ≡ false
-not_falling Less b e = refl
-not_falling Equal b e = refl
-not_falling Greater b e = e
-
-object_rises : (v w : VersionData) → version_cmp v w ≡ Less → is_gt (object_cmp v w) ≡ false
-object_rises v w less = not_falling _ _ (not_falling _ _ (not_falling _ _ (not_falling _ _ (ap is_gt less))))
-
-no_more : (r s : Ordering) → r ≡ ordering_reverse s → is_gt r ≡ false → is_gt s ≡ false → is_eq r ≡ true
-no_more Less Less e h k = absurd (false≢true (ap is_gt e))
-no_more Less Equal e h k = absurd (false≢true (ap is_eq e))
-no_more Less Greater e h k = absurd (false≢true (sym k))
-no_more Equal s e h k = refl
-no_more Greater s e h k = absurd (false≢true (sym h))
-
--- a version between two versions of an object is a version of this object
-together : (u v w : VersionData) → version_cmp u v ≡ Less → version_cmp v w ≡ Less → same_object u w ≡ true → same_object u v ≡ true
-together u v w uv vw uw =
-    let back : is_gt (object_cmp w u) ≡ false = ap is_gt (object_cmp_total.antisymm w u)
-    ∙ ap (λ r. is_gt (ordering_reverse r)) ((Equal-is (object_cmp u w)).0 uw) in
-    no_more (object_cmp u v) (object_cmp v u) (object_cmp_total.antisymm u v) (object_rises u v uv)
-    (upto object_cmp_total v w u (object_rises v w vw) back)
+use Rattle.osm_merge.proofs.ObjectLaws.{not_falling}
+use Rattle.osm_merge.proofs.ObjectLaws.{object_rises}
+use Rattle.osm_merge.proofs.ObjectLaws.{objects_together as together}
 
 and_true : (a : Bool) → (a && true) ≡ a
 and_true true = refl

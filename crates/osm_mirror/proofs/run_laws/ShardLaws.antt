@@ -24,6 +24,7 @@ use Rattle.osm_mirror.proofs.run_laws.SplitLineLaws.{part_ends, part_whole}
 use Rattle.osm_mirror.proofs.run_laws.SlicedFileLaws.{SpelledFrom, no_spans, spelled_more, spelled_last, slices_of_all}
 use Rattle.osm_mirror.proofs.run_laws.SlicedFileLaws.{slices_write_the_job}
 use Rattle.osm_mirror.proofs.run_laws.SortedRunLaws.{after_line}
+use Rattle.osm_files.proofs.JoinLaws.{starts_as}
 
 -- ---- runs over the parts of several files
 -- the parts of all files within a span are the slices of the files' sets
@@ -55,10 +56,6 @@ shards_write_the_job selection bounds sets parts up h =
 -- ---- parts of one file
 nothing_spelled : (versions : List VersionData) → IsFile [] versions → versions ≡ []
 nothing_spelled versions file = one_list [] versions [] file tt
-
-starts_as : (front rest : List ℕ) (last : ℕ) → start_of (front ++ last ∷ rest) ≡ start_of (front ++ last ∷ [])
-starts_as [] rest last = refl
-starts_as (b ∷ front) rest last = refl
 
 -- lines, and the lines after them, spell the versions of both
 joined : (bytes file rest : List ℕ) (earlier later : List VersionData) → bytes ≡ file ++ rest → start_of bytes ≡ InOpl →

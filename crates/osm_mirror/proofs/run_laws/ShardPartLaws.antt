@@ -28,7 +28,8 @@ use Rattle.osm_merge.specs.declared.object.Span.{Span}
 use Rattle.osm_merge.specs.Members.{retain}
 use Rattle.std.specs.List.Sorted.{IsSorted}
 use Rattle.osm_merge.specs.Slice.{slice_of, is_ascending, is_ascending_between, is_within, is_under, reaches, IsWithin}
-use Rattle.osm_merge.proofs.SliceLaws.{equal, kept_in}
+use Rattle.osm_merge.proofs.SliceLaws.{kept_in}
+use Rattle.osm_files.proofs.SpellLaws.{equal_sets as equal}
 use Rattle.osm_mirror.specs.run.CutOffset.{IsUnderBefore}
 use Rattle.osm_mirror.specs.run.ShardPart.{BeginsAt, EndsAt, IsPartWithin}
 use Rattle.osm_mirror.proofs.run_laws.CutLaws.{cuts_rise}

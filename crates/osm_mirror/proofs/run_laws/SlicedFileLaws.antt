@@ -39,6 +39,9 @@ use Rattle.osm_mirror.specs.run.Slices.{SlicesHoldTheFile, AreSlicesWithin, Slic
 use Rattle.osm_mirror.proofs.run_laws.SourceLaws.{members, union_given_is}
 use Rattle.osm_mirror.proofs.fleet_laws.MergesLaws.{in_union_of}
 use Rattle.osm_mirror.proofs.run_laws.SortedRunLaws.{after_line, at_reset}
+use Rattle.osm_merge.proofs.SnapLaws.{or_right}
+use Rattle.osm_merge.proofs.Settling.{all_append}
+use Rattle.osm_merge.proofs.PassLaws.{map_all}
 
 -- ---- keys
 above_first : (r s : Ordering) → is_gt r ≡ true → is_lt (ordering_then r s) ≡ false
@@ -62,13 +65,6 @@ over_bound bound v w under over =
     false≢true (sym (not_below (object_of v) (object_of w) bound (below_is (object_of v) (object_of w) ∙ none) (is_not _ over)) ∙ under)))
 
 -- ---- lists
-all_append : {K : Type 0} (P : K → Type 0) (xs ys : List K) → AllByRecursion P xs → AllByRecursion P ys → AllByRecursion P (xs ++ ys)
-all_append P [] ys h k = k
-all_append P (x ∷ xs) ys h k = (h.0, all_append P xs ys h.1 k)
-
-map_all : {K : Type 0} (P Q : K → Type 0) → ((x : K) → P x → Q x) → (xs : List K) → AllByRecursion P xs → AllByRecursion Q xs
-map_all P Q f [] h = tt
-map_all P Q f (x ∷ xs) h = (f x h.0, map_all P Q f xs h.1)
 
 -- the version before, if there is one, is under the bound
 abbrev BeforeUnder : Object → Option VersionData → Type 0
@@ -89,9 +85,6 @@ join bound before [] (y ∷ ys) under up more all over = (first_over bound befor
 join bound before (x ∷ xs) ys under up more all over = (up.0, join bound (Some x) xs ys all.0 up.1 more all.1 over)
 
 -- ---- the members of a set and of a list of it
-or_right : (a b : Bool) → b ≡ true → (a || b) ≡ true
-or_right true b e = refl
-or_right false b e = e
 
 all_members : (p : VersionData → Bool) (vs : List VersionData) →
     ((v : VersionData) → list_any (eq_by_cmp version_cmp v) vs ≡ true → p v ≡ true) → AllByRecursion (λ v. p v ≡ true) vs

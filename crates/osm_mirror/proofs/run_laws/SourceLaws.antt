@@ -52,7 +52,8 @@ use Rattle.osm_merge.specs.ToCome as source
 use Rattle.osm_merge.specs.Union as union
 use Rattle.osm_merge.specs.Within.{given_within, within_span, up_to, from_bound, dropped_outside, WithinCanGive, ascends_in}
 use Rattle.osm_merge.proofs.GiveLaws.{give_one}
-use Rattle.osm_merge.proofs.SliceLaws.{kept_in, equal}
+use Rattle.osm_merge.proofs.SliceLaws.{kept_in}
+use Rattle.osm_files.proofs.SpellLaws.{equal_sets as equal}
 use Rattle.osm_merge.proofs.SliceSources.{dropped_is_slice, dropped_of_whole, dropped_to_the_end, refused_is_inside, inside_is_given}
 use Rattle.osm_mirror.specs.declared.run.input.InputFile.{InputFile}
 use Rattle.osm_mirror.specs.declared.run.input.ReadAs.{ReadAs}
@@ -66,6 +67,10 @@ use Rattle.osm_mirror.specs.run.SourceRest.{SourceCanGive, source_one, source_po
 use Rattle.osm_mirror.specs.run.Given.{GivesFile, GivesAs, IsFileAs, refusal, whole_or_refused, held_source, source_of, sources}
 use Rattle.osm_mirror.specs.run.Given.{InputFileCanGive}
 use Rattle.osm_mirror.specs.run.Given.{file_as, one_of_file, IsRead, IsOpened, AreOpened, CannotBeRead, IsUnread, IsUnopened}
+use Rattle.osm_files.proofs.SpellLaws.{or_grouped as or_assoc}
+use Rattle.osm_merge.proofs.SnapLaws.{or_right as or_more}
+use Rattle.osm_merge.proofs.SnapLaws.{and_twice as both}
+use Rattle.osm_merge.proofs.UnionLaws.{nothing_appended as at_first}
 
 -- ---- the union
 abbrev among : VersionData → List VersionData → Bool
@@ -78,10 +83,6 @@ members s = from_list {R = version_cmp} s.list
 or_false : (b : Bool) → b ≡ (b || false)
 or_false true = refl
 or_false false = refl
-
-or_assoc : (a b c : Bool) → ((a || b) || c) ≡ (a || (b || c))
-or_assoc true b c = refl
-or_assoc false b c = refl
 
 -- the members of a union of sets
 has_union : (before : VersionSet) (all : List source.VersionsToCome) (v : VersionData)
@@ -130,9 +131,6 @@ one_gives can number reader still h =
     let known : Some still ≡ Some (sorted_source number h.0) =
     sym h.2 ∙ source_begins_known (with_rest (new_source number reader).units h.0) [] number (Some h.0) refl refl in
     (h.0, h.1, cc)
-
-pub at_first : (content : Content) → IsAppended content content []
-at_first content held h = subst content (sym (append-nil held)) h
 
 -- If memory runs out before anything is written, the file is cut after no bytes.
 pub cut_at_once : {O : Type 0} (w : Ghosts O) (before after : O) (number : ℕ) (bytes : List ℕ) (fault : Fault) → fault ≡ memory_fault →
@@ -192,21 +190,12 @@ slice_of_file number span c held file =
     ∙ ap (λ (s : source.VersionsToCome). slice_of span.from span.to (members s)) (source_sorted number c held file.unbroken file.file)
     ∙ ap (slice_of span.from span.to) (sym (listed_members held))
 
-both : (a b : Bool) → ((a && b) && b) ≡ (a && b)
-both true true = refl
-both true false = refl
-both false b = refl
-
 -- a slice of a set is within its span
 slices_are_within : (span : Span) (s : VersionSet) → IsWithin span (slice_of span.from span.to s)
 slices_are_within span s =
     let p : VersionData → Bool = is_within span.from span.to in
     let part : VersionSet = slice_of span.from span.to s in
     equal _ _ (λ v. kept_in part p v ∙ ap (λ b. b && p v) (kept_in s p v) ∙ both (contains s v) (p v) ∙ sym (kept_in s p v))
-
-or_more : (a b : Bool) → b ≡ true → (a || b) ≡ true
-or_more true b h = refl
-or_more false b h = h
 
 or_same : (a b c : Bool) → (b ≡ true → c ≡ true) → (a || b) ≡ true → (a || c) ≡ true
 or_same true b c f h = refl

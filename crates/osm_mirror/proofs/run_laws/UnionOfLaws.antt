@@ -9,9 +9,7 @@ use Rattle.osm_model.proofs.SetLaws.{same_set}
 use Rattle.osm_model.proofs.VersionLaws.{version_cmp-IsAntisymmetric}
 use Rattle.osm_mirror.specs.run.Job.{union_of}
 use Rattle.osm_mirror.proofs.fleet_laws.MergesLaws.{or_false, in_union_of}
-
-equal : (s t : VersionSet) → ((v : VersionData) → contains s v ≡ contains t v) → s ≡ t
-equal = same_set version_cmp_total version_cmp-IsAntisymmetric
+use Rattle.osm_files.proofs.SpellLaws.{equal_sets as equal}
 
 -- The union of one set is that set.
 pub union_of_one : (s : VersionSet) → union_of (s ∷ []) ≡ s

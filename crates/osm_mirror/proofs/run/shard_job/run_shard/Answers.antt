@@ -1,6 +1,6 @@
 use Rattle.std.proofs.Common.{◌∙◌, List, ℕ, Option, Bor, refl, sym}
 use Rattle.osm_files.specs.Change.{change_of}
-use Rattle.osm_mirror.proofs.run_laws.SourceLaws.{at_first}
+use Rattle.osm_merge.proofs.UnionLaws.{nothing_appended as at_first}
 use Rattle.osm_mirror.specs.run.Bounds.{shard_span}
 use Rattle.osm_mirror.proofs.run_laws.ShardJobLaws.{shard_is}
 use Rattle.osm_mirror.proofs.run_laws.SpanJobLaws.{first_refuses, nothing_cut}

@@ -2,7 +2,7 @@ use Rattle.std.proofs.Common.{◌∙◌, List, ℕ, Option, Bor, ap, length, ari
 use Rattle.std.proofs.lemmas.Result.{err_from_is_err_and}
 use Rattle.osm_files.specs.Change.{change_of}
 use Rattle.osm_files.specs.FileInput.{FramedCanGive}
-use Rattle.osm_mirror.proofs.run_laws.SourceLaws.{at_first}
+use Rattle.osm_merge.proofs.UnionLaws.{nothing_appended as at_first}
 use Rattle.osm_mirror.proofs.run_laws.SpanJobLaws.{span_run_is, span_refused, nothing_cut}
 use Rattle.osm_mirror.proofs.run.shard_job.write_span.Goals as goal
 
