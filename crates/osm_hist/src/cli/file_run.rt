@@ -118,23 +118,29 @@ impl<'a, 'q, 'f, 'r, 'e, R: Host, E: Write + IsTerminal> Runner<'a, 'q, 'f, 'r, 
         let Ok(buffer) = BufWriter::with_capacity(alloc, BUFFER, writer) else {
             return Err(Fault::at(0, 0, Reason::Memory));
         };
-        let (run, mut progress) = (self.asked.run, &self.meter);
+        let (job, mut progress) = (self.asked.job, &self.meter);
         let mut output = ToWrite::new(buffer);
         if let Some(shard) = self.asked.shard {
             let files = regular_files(alloc, inputs)?;
-            let run = ShardJob {
+            let shard_job = ShardJob {
                 shard,
-                selection: run.selection,
-                format: run.format,
+                selection: job.selection,
+                format: job.format,
             };
-            return run_shard(alloc, run, files.as_slice(), &mut output, &mut progress);
+            return run_shard(
+                alloc,
+                shard_job,
+                files.as_slice(),
+                &mut output,
+                &mut progress,
+            );
         }
         let files = files_of_run(alloc, inputs)?;
         if self.asked.progress || self.asked.summary {
-            run_open_files(alloc, run, files, &mut output, &mut progress)
+            run_open_files(alloc, job, files, &mut output, &mut progress)
         } else {
             // A job without reports isn't observed.
-            run_open_files(alloc, run, files, &mut output, &mut NoProgress)
+            run_open_files(alloc, job, files, &mut output, &mut NoProgress)
         }
     }
 

@@ -18,12 +18,12 @@ use std::io::{IsTerminal, Write};
 /// refusal of a file that the plan names.
 pub(super) fn run_plan<O: Write, E: Write + IsTerminal>(
     rt: &impl Host,
-    args: &ArgMatches<'_>,
+    matches: &ArgMatches<'_>,
     out: &mut O,
     err: &mut E,
 ) -> u8 {
-    let name = args.get_str("plan").unwrap_or(STANDARD);
-    let (strict, hints) = (args.get_flag("strict"), args.get_flag("hints"));
+    let name = matches.get_str("plan").unwrap_or(STANDARD);
+    let (strict, hints) = (matches.get_flag("strict"), matches.get_flag("hints"));
     let plan = match plan_of(rt, name) {
         Ok(plan) => plan,
         Err(refusal) => return hint::report(rt, &refusal, err, hints),
