@@ -20,11 +20,11 @@ use std::alloc::Global;
 /// The counts of a merge. A count stops at 2^64 - 1.
 #[derive(Clone, Copy, Debug, PartialEq, Eq)]
 pub struct Counts {
-    /// The versions that the sources gave.
+    /// The number of versions that the sources gave, repeats included.
     pub read: u64,
-    /// The versions that were put.
+    /// The number of versions that were written.
     pub written: u64,
-    /// The comparisons of versions.
+    /// The number of comparisons of two versions.
     pub compared: u64,
 }
 

@@ -61,7 +61,7 @@ impl Fleet {
         Ok(Fleet { mirrors })
     }
 
-    /// The number of mirrors.
+    /// The number of mirrors, which never changes.
     pub fn len(&self) -> usize
         ensures { result ≡ length self.now }
     {
@@ -109,7 +109,7 @@ impl Fleet {
         Ok(replies)
     }
 
-    /// Runs one event.
+    /// Runs one event, and returns the reply to it.
     fn reply_to(&mut self, event: &Event) -> Reply
         requires { IsWithin (length self.old) event.now }
         ensures reply { IsReplyTo self.old event.now result }

@@ -34,7 +34,7 @@ pub enum Content<'a> {
 pub struct Conversion<'a> {
     /// The name of the file.
     pub name: &'a str,
-    /// Its format.
+    /// The name of its format.
     pub kind: &'static str,
     /// The command that converts it.
     pub tool: &'static str,

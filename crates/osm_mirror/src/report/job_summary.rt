@@ -54,13 +54,13 @@ impl Progress for JobTally {
 /// A job that made a file. Its text is a line about the job, without a line feed.
 #[derive(Clone, Copy, Debug)]
 pub struct JobSummary<'a> {
-    /// The command.
+    /// The command that made the file.
     pub command: Command,
     /// The number of files that the job read.
     pub inputs: usize,
     /// The numbers of versions that the job read and wrote.
     pub counts: Counts,
-    /// What it wrote.
+    /// The kinds of the versions that it wrote, and the keys with several data.
     pub tally: JobTally,
     /// The time that it took, in milliseconds.
     pub milliseconds: u128,

@@ -23,9 +23,9 @@ pub enum ReadAs {
 /// A reader of a file, and the way in which the file's versions are read.
 #[derive(Drop)]
 pub struct InputFile<R> {
-    /// The reader.
+    /// Gives the bytes of the file.
     pub reader: R,
-    /// The way.
+    /// The order that its versions must have, or the span of those that count.
     pub read_as: ReadAs,
 }
 

@@ -14,7 +14,7 @@ use std::alloc::Global;
 /// What is known of the lines of an OPL file that begin at an offset or after it.
 #[derive(Clone, Copy, Debug, PartialEq, Eq)]
 pub(crate) struct LinesFrom {
-    /// The offset.
+    /// The offset from which on the lines are known. No line need begin there.
     pub(crate) offset: u64,
     /// The offset at which the first of these lines begins, or the file's length if there is none.
     pub(crate) start: u64,

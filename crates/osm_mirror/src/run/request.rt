@@ -90,7 +90,7 @@ impl FileEnd {
 /// arguments that it doesn't take.
 #[derive(Clone, Copy, Debug, PartialEq, Eq)]
 pub struct FileRequest<'a> {
-    /// The command.
+    /// The command, which decides which of the other fields count.
     pub command: Command,
     /// Whether `apply` writes all versions.
     pub with_history: bool,

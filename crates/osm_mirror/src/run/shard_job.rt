@@ -37,7 +37,7 @@ const ALL_OBJECTS: Span = Span {
 /// What the job for a shard writes.
 #[derive(Clone, Copy, Debug, PartialEq, Eq)]
 pub struct ShardJob {
-    /// The shard.
+    /// Which of the output's shards the job writes.
     pub shard: Shard,
     /// The versions that are selected from the union of the files' sets.
     pub selection: Selection,

@@ -26,7 +26,7 @@ pub struct Slice {
 /// A reader of a sorted file, or of a part of one, of which a slice is read.
 #[derive(Drop)]
 pub struct SliceFile<R> {
-    /// The reader.
+    /// Gives the bytes of the file or of the part.
     pub reader: R,
     /// The effect of a version outside of the span. In a whole file it is dropped. In a part of a file, which is to
     /// have only the slice, it is refused.
