@@ -20,8 +20,8 @@ mod ShardLaws
 mod BoundLaws
 mod BoundSearch
 mod ProbeLaws
-mod ShardPartLaws
-mod FilePartLaws
+mod ShardExtentLaws
+mod FileExtentLaws
 mod ShardSpanLaws
 mod SpanJobLaws
 mod ShardJobLaws

@@ -19,6 +19,6 @@ pub mod Bounds
 pub mod LinesFrom
 pub mod Probes
 pub mod ShardSpan
-pub mod ShardPart
+pub mod ShardExtent
 pub mod ShardJob
 pub mod ShardRefusal

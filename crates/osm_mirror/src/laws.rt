@@ -10,7 +10,7 @@ ghost use Rattle.osm_mirror.specs.run.KnownInputs.{KnownIsGiven, MergesOfKnown, 
 ghost use Rattle.osm_mirror.specs.run.KnownInputs.{MergesWriteASet, JobsWriteASet};
 ghost use Rattle.osm_mirror.specs.run.KnownInputs.{RefusedMergesHaveBegun, RefusedJobsHaveBegun};
 ghost use Rattle.osm_mirror.specs.run.ShardJob.{ShardJobsWriteTheJob};
-ghost use Rattle.osm_mirror.specs.run.Shards.{PartsHoldTheFile, ShardsWriteTheJob};
+ghost use Rattle.osm_mirror.specs.run.Shards.{ExtentsHoldTheFile, ShardsWriteTheJob};
 ghost use Rattle.osm_mirror.specs.run.Slices.{SlicesHoldTheFile, SlicesWriteTheJob};
 ghost use Rattle.osm_mirror.specs.run.SortedRuns.{SortedRunsHoldTheFile, SortedRunsWriteTheFile};
 
@@ -56,10 +56,10 @@ pub fn slices_write_the_job()
     ensures { SlicesWriteTheJob }
 {}
 
-/// If the parts of an OPL file between offsets are sorted files, each within its span, the file is sorted, and each
-/// part holds its slice.
-pub fn parts_hold_the_file()
-    ensures { PartsHoldTheFile }
+/// If the extents of an OPL file between offsets are sorted files, each within its span, the file is sorted, and each
+/// extent holds its slice.
+pub fn extents_hold_the_file()
+    ensures { ExtentsHoldTheFile }
 {}
 
 /// The jobs over the slices of several files, one job for each span, write the same bytes as one job over the files.

@@ -30,7 +30,7 @@ use Rattle.osm_mirror.specs.declared.run.lines_from.LinesFrom.{LinesFrom}
 use Rattle.osm_mirror.specs.run.CutOffset.{start_if, IsCutRefusal}
 use Rattle.osm_mirror.specs.run.LinesFrom.{AreLines, AreLinesOf}
 use Rattle.osm_mirror.specs.run.Probes.{HaveBytes, IsTotal, FindsBy, FindsIn, FindsInAll}
-use Rattle.osm_mirror.specs.run.ShardPart.{size_if_opl, IsOplSize}
+use Rattle.osm_mirror.specs.run.ShardExtent.{size_if_opl, IsOplSize}
 use Rattle.osm_mirror.specs.run.ShardRefusal.{IsFileRefusal}
 use Rattle.osm_mirror.proofs.run_laws.SplitLineLaws.{split_lines, split_versions}
 use Rattle.osm_mirror.proofs.run_laws.FilesJobLaws.{cut, known_given, take_more}

@@ -1,4 +1,4 @@
--- Parts of a file between offsets, and the runs over the parts of several files.
+-- Parts of a file between offsets, and the runs over the extents of several files.
 use Rattle.std.proofs.Common.{◌≡◌, ◌⊎◌, inl, inr, ⊎_elim, ℕ, zero, suc, ◌+◌, ◌-◌, ◌≤◌, List, [], ◌∷◌, ◌++◌, take, drop, map}
 use Rattle.std.proofs.Common.{refl, sym, ap, ◌∙◌, subst, arith, Option, Some, None, append-nil, append_assoc, take-append-drop}
 use Rattle.std.proofs.lemmas.List.{drop-drop, append_cancel_right}
@@ -17,7 +17,7 @@ use Rattle.osm_merge.specs.Slice.{slice_of, spans, spans_from, IsWithin}
 use Rattle.osm_merge.specs.Union as merged
 use Rattle.osm_merge.proofs.SliceLaws.{Rise, rise}
 use Rattle.osm_mirror.specs.run.CutOffset.{BeginsLines}
-use Rattle.osm_mirror.specs.run.Shards.{parts_from, AreCutsFrom, PartsHoldTheFile, first_set, other_sets, by_span}
+use Rattle.osm_mirror.specs.run.Shards.{parts_from, AreCutsFrom, ExtentsHoldTheFile, first_set, other_sets, by_span}
 use Rattle.osm_mirror.specs.run.Shards.{ShardsWriteTheJob}
 use Rattle.osm_mirror.specs.run.Slices.{AreSlicesWithin}
 use Rattle.osm_mirror.proofs.run_laws.SplitLineLaws.{part_ends, part_whole}
@@ -26,34 +26,34 @@ use Rattle.osm_mirror.proofs.run_laws.SlicedFileLaws.{slices_write_the_job}
 use Rattle.osm_mirror.proofs.run_laws.SortedRunLaws.{after_line}
 use Rattle.osm_files.proofs.JoinLaws.{starts_as}
 
--- ---- runs over the parts of several files
--- the parts of all files within a span are the slices of the files' sets
-first_slices : (sets : List VersionSet) (span : Span) (others : List Span) (parts : List (List VersionSet)) →
-    Pairwise (λ held slices. map (λ s. slice_of s.from s.to held) (span ∷ others) ≡ slices) sets parts →
-    (map first_set parts ≡ map (slice_of span.from span.to) sets)
-    × Pairwise (λ held slices. map (λ s. slice_of s.from s.to held) others ≡ slices) sets (map other_sets parts)
+-- ---- runs over the extents of several files
+-- the extents of all files within a span are the slices of the files' sets
+first_slices : (sets : List VersionSet) (span : Span) (others : List Span) (extents : List (List VersionSet)) →
+    Pairwise (λ held slices. map (λ s. slice_of s.from s.to held) (span ∷ others) ≡ slices) sets extents →
+    (map first_set extents ≡ map (slice_of span.from span.to) sets)
+    × Pairwise (λ held slices. map (λ s. slice_of s.from s.to held) others ≡ slices) sets (map other_sets extents)
 first_slices [] span others [] h = (refl, tt)
-first_slices [] span others (p ∷ parts) h = absurd h
+first_slices [] span others (p ∷ extents) h = absurd h
 first_slices (s ∷ sets) span others [] h = absurd h
-first_slices (s ∷ sets) span others (p ∷ parts) (is, h) =
-    let more = first_slices sets span others parts h in (
+first_slices (s ∷ sets) span others (p ∷ extents) (is, h) =
+    let more = first_slices sets span others extents h in (
       λ i. ap first_set (sym is) i ∷ more.0 i,
       (ap other_sets is, more.1),
     )
 
-runs_are : (sets : List VersionSet) (all : List Span) (parts : List (List VersionSet)) →
-    Pairwise (λ held slices. map (λ s. slice_of s.from s.to held) all ≡ slices) sets parts →
-    Pairwise (AreSlicesWithin sets) all (by_span all parts)
-runs_are sets [] parts h = tt
-runs_are sets (span ∷ others) parts h = let first = first_slices sets span others parts h in
-    (first.0, runs_are sets others (map other_sets parts) first.1)
+runs_are : (sets : List VersionSet) (all : List Span) (extents : List (List VersionSet)) →
+    Pairwise (λ held slices. map (λ s. slice_of s.from s.to held) all ≡ slices) sets extents →
+    Pairwise (AreSlicesWithin sets) all (by_span all extents)
+runs_are sets [] extents h = tt
+runs_are sets (span ∷ others) extents h = let first = first_slices sets span others extents h in
+    (first.0, runs_are sets others (map other_sets extents) first.1)
 
--- The parts of a run, one after another, are what the run writes.
+-- The extents of a run, one after another, are what the run writes.
 pub shards_write_the_job : ShardsWriteTheJob
-shards_write_the_job selection bounds sets parts up h =
-    slices_write_the_job selection bounds sets (by_span (spans bounds) parts) up (runs_are sets (spans bounds) parts h)
+shards_write_the_job selection bounds sets extents up h =
+    slices_write_the_job selection bounds sets (by_span (spans bounds) extents) up (runs_are sets (spans bounds) extents h)
 
--- ---- parts of one file
+-- ---- extents of one file
 nothing_spelled : (versions : List VersionData) → IsFile [] versions → versions ≡ []
 nothing_spelled versions file = one_list [] versions [] file tt
 
@@ -101,7 +101,7 @@ parts_spell bytes from (bound ∷ bounds) start (offset ∷ offsets) (s ∷ held
     (joined (drop start bytes) (take (offset - start) (drop start bytes)) (drop offset bytes) h.versions (merged.versions_of more.given)
     (part_whole bytes start offset ascends) opl begins.start (part_ends bytes start offset ascends begins.line) h.file more.file)
 
--- The parts of a file at its cut offsets hold the slices of its set.
-pub parts_hold_the_file : PartsHoldTheFile
-parts_hold_the_file bounds bytes offsets held short opl up cuts holds within =
+-- The extents of a file at its cut offsets hold the slices of its set.
+pub extents_hold_the_file : ExtentsHoldTheFile
+extents_hold_the_file bounds bytes offsets held short opl up cuts holds within =
     slices_of_all bounds bytes held short up within (parts_spell bytes None bounds 0 offsets held (rise bounds up) cuts opl holds within)

@@ -27,18 +27,18 @@ use Rattle.osm_merge.specs.Selected.{selection_of}
 use Rattle.osm_merge.specs.Slice.{slice_of}
 use Rattle.osm_merge.specs.ToCome.{rest_at}
 use Rattle.osm_merge.specs.Union.{capped_count}
-use Rattle.osm_mirror.specs.declared.run.shard_part.FilePart.{FilePart}
+use Rattle.osm_mirror.specs.declared.run.shard_extent.FileExtent.{FileExtent}
 use Rattle.osm_mirror.specs.declared.run.slice.SliceFile.{SliceFile}
 use Rattle.osm_mirror.specs.run.Bounds.{opl_size}
 use Rattle.osm_mirror.specs.run.FilesRefusal.{IsOutputFault}
 use Rattle.osm_mirror.specs.run.Probes.{HaveBytes}
 use Rattle.osm_mirror.specs.run.Job.{union_of}
-use Rattle.osm_mirror.specs.run.ShardPart.{IsFilePart, IsPartOf, IsInputOf, AreInputsOf}
-use Rattle.osm_mirror.specs.run.ShardRefusal.{IsFileRefusal, IsFaultOfFile, fault_in_part, IsFaultAmong, AreTooLong, AreRefused, IsGood}
+use Rattle.osm_mirror.specs.run.ShardExtent.{IsFileExtent, IsExtentOf, IsInputOf, AreInputsOf}
+use Rattle.osm_mirror.specs.run.ShardRefusal.{IsFileRefusal, IsFaultOfFile, fault_in_extent, IsFaultAmong, AreTooLong, AreRefused, IsGood}
 use Rattle.osm_mirror.specs.run.ShardRefusal.{IsCutIfGood, RefusesSpan}
 use Rattle.osm_mirror.specs.run.ShardJob.{shard_slices, IsSpanJob}
 use Rattle.osm_mirror.specs.run.SliceJob.{SliceFileCanGive, given_slice, given_slices, HasSlice, GivesSlice, IsSliceJob, RefusesSlice}
-use Rattle.osm_mirror.proofs.run_laws.FilePartLaws.{found_is, good_is, fault_is, slice_number}
+use Rattle.osm_mirror.proofs.run_laws.FileExtentLaws.{found_is, good_is, fault_is, slice_number}
 use Rattle.osm_mirror.proofs.run_laws.FilesRefusalLaws.{at_is, none_after}
 use Rattle.osm_mirror.proofs.run_laws.FilesJobLaws.{as_pairs, pairwise_length}
 
@@ -121,28 +121,31 @@ module _ {F R : Type 0} (known : F → Option (List ℕ)) (fails : F → Type 0)
     input_found : (file : F) (input : SliceFile R) (set : VersionSet) (given : Outside × InputRest) (found : VersionSet)
         → Input file input → Set file set → SliceFileCanGive can input given → HasSlice span given found → found ≡ slice set
     input_found file input set given found i (all, is, holds) gives has =
-        found_is span (fails file) all i.part (subst (λ k. IsPartOf span k i.part) is i.is) input.outside i.outside set holds given found
-        (sym gives.0) (subst (λ k. RunCanGive (fails file) k i.part.run i.part.size given.1) is (i.reads given.1 gives.1)) has
+        found_is span (fails file) all i.extent (subst (λ k. IsExtentOf span k i.extent) is i.is) input.outside i.outside set holds given
+        found
+        (sym gives.0) (subst (λ k. RunCanGive (fails file) k i.extent.run i.extent.size given.1) is (i.reads given.1 gives.1)) has
 
     input_good : (file : F) (input : SliceFile R) (set : VersionSet) (given : Outside × InputRest) → Input file input
         → GoodSet file set → SliceFileCanGive can input given → GivesSlice span given (slice set)
     input_good file input set given i (all, (is, never), holds) gives =
-        good_is span (fails file) all i.part (subst (λ k. IsPartOf span k i.part) is i.is) input.outside i.outside set holds never given
-        (sym gives.0) (subst (λ k. RunCanGive (fails file) k i.part.run i.part.size given.1) is (i.reads given.1 gives.1))
+        good_is span (fails file) all i.extent (subst (λ k. IsExtentOf span k i.extent) is i.is) input.outside i.outside set holds never
+        given
+        (sym gives.0) (subst (λ k. RunCanGive (fails file) k i.extent.run i.extent.size given.1) is (i.reads given.1 gives.1))
 
-    known_fault : (Fails : Type 0) (k : Option (List ℕ)) (part : FilePart) (outside : Outside) (number : ℕ) (given : Outside × InputRest)
-        (fault : Fault) → IsPartOf span k part → outside ≡ part.outside → given.0 ≡ outside
-        → RunCanGive Fails k part.run part.size given.1 → (given_slice span number given).refusal ≡ Some fault
+    known_fault : (Fails : Type 0) (k : Option (List ℕ)) (extent : FileExtent) (outside : Outside) (number : ℕ) (given : Outside
+        × InputRest)
+        (fault : Fault) → IsExtentOf span k extent → outside ≡ extent.outside → given.0 ≡ outside
+        → RunCanGive Fails k extent.run extent.size given.1 → (given_slice span number given).refusal ≡ Some fault
         → IsFileRefusal Fails k fault
-    known_fault Fails None part outside number given fault is outside_is e gives refused = inr tt
-    known_fault Fails (Some all) part outside number given fault is outside_is e gives refused =
-        fault_is span Fails all part is outside outside_is number given fault e gives refused
+    known_fault Fails None extent outside number given fault is outside_is e gives refused = inr tt
+    known_fault Fails (Some all) extent outside number given fault is outside_is e gives refused =
+        fault_is span Fails all extent is outside outside_is number given fault e gives refused
 
     input_fault : (file : F) (input : SliceFile R) (number : ℕ) (given : Outside × InputRest) (fault : Fault) → Input file input
         → SliceFileCanGive can input given → (given_slice span number given).refusal ≡ Some fault
         → IsFileRefusal (fails file) (known file) fault
     input_fault file input number given fault i gives refused =
-        known_fault (fails file) (known file) i.part input.outside number given fault i.is i.outside (sym gives.0)
+        known_fault (fails file) (known file) i.extent input.outside number given fault i.is i.outside (sym gives.0)
         (i.reads given.1 gives.1) refused
 
     -- ---- all inputs
@@ -157,11 +160,11 @@ module _ {F R : Type 0} (known : F → Option (List ℕ)) (fails : F → Type 0)
         let of_inputs = turned Input Set (λ input set. (file : F) × Input file input × Set file set)
         (λ file input set a b. (file, a, b)) files inputs held i s in
         let of_given = turned (SliceFileCanGive can) (λ input set. (file : F) × Input file input × Set file set)
-        (λ c set. (part : VersionSet) → HasSlice span c part → part ≡ slice set)
-        (λ input c set gives (file, a, b) part has. input_found file input set c part a b gives has) inputs given held
+        (λ c set. (extent : VersionSet) → HasSlice span c extent → extent ≡ slice set)
+        (λ input c set gives (file, a, b) extent has. input_found file input set c extent a b gives has) inputs given held
         (as_pairs (SliceFileCanGive can) inputs given g) of_inputs in
-        mapped_is slice found held (turned (HasSlice span) (λ c set. (part : VersionSet) → HasSlice span c part → part ≡ slice set)
-        (λ part set. part ≡ slice set) (λ c part set has one. one part has) given found held h of_given)
+        mapped_is slice found held (turned (HasSlice span) (λ c set. (extent : VersionSet) → HasSlice span c extent → extent ≡ slice set)
+        (λ extent set. extent ≡ slice set) (λ c extent set has one. one extent has) given found held h of_given)
 
     slices_given : (files : List F) (inputs : List (SliceFile R)) (given : List (Outside × InputRest)) (held : List VersionSet)
         → Pairwise Input files inputs → Pairwise GoodSet files held → AllGive (SliceFileCanGive can) inputs given
@@ -231,7 +234,7 @@ module _ {F R : Type 0} (known : F → Option (List ℕ)) (fails : F → Type 0)
     written_count = count ∙ ap (λ (xs : List VersionSet). capped_count (size (selection_of selection (union_of xs)))) same;
   }
 
-  -- A run over the parts of files is the run for the span.
+  -- A run over the extents of files is the run for the span.
   pub span_run_is : (all_objects sliced : Span) (span : Option Span) → sliced ≡ unwrap_or span all_objects
       → (files : List F) (inputs : List (SliceFile R))
       → AreInputsOf known fails can span files inputs → (selection : Selection) (format : Format) (change : Change) (counts : Counts)
@@ -249,38 +252,38 @@ module _ {F R : Type 0} (known : F → Option (List ℕ)) (fails : F → Type 0)
       run.written_count
 
   -- ---- why the run is refused
-  abbrev Moved : List FilePart → ℕ → Fault → Fault
-  Moved parts count fault = fault_in_part fault count (slice_get parts fault.input)
+  abbrev Moved : List FileExtent → ℕ → Fault → Fault
+  Moved extents count fault = fault_in_extent fault count (slice_get extents fault.input)
 
-  moved_memory : (fault : Fault) (count : ℕ) (found : Option FilePart) → fault ≡ memory_fault
-      → fault_in_part fault count found ≡ memory_fault
+  moved_memory : (fault : Fault) (count : ℕ) (found : Option FileExtent) → fault ≡ memory_fault
+      → fault_in_extent fault count found ≡ memory_fault
   moved_memory fault count None is = ap (λ (f : Fault). fault_at count f.place f.reason) is
-  moved_memory fault count (Some part) is = rw is refl
+  moved_memory fault count (Some extent) is = rw is refl
 
   -- a fault of the output
-  moved_output : (parts : List FilePart) (count place : ℕ) (fault output : Fault) → fault ≡ output → output.input ≡ length parts
-      → Moved parts count fault ≡ fault_at count output.place output.reason
-  moved_output parts count place fault output is at =
-      ap (fault_in_part fault count)
-      (ap (slice_get parts) (ap (λ f. f.input) is ∙ at) ∙ none_after parts (length parts) (omega arith))
+  moved_output : (extents : List FileExtent) (count place : ℕ) (fault output : Fault) → fault ≡ output → output.input ≡ length extents
+      → Moved extents count fault ≡ fault_at count output.place output.reason
+  moved_output extents count place fault output is at =
+      ap (fault_in_extent fault count)
+      (ap (slice_get extents) (ap (λ f. f.input) is ∙ at) ∙ none_after extents (length extents) (omega arith))
       ∙ ap (λ (f : Fault). fault_at count f.place f.reason) is
 
-  why_moved : (parts : List FilePart) (count : ℕ) (number : ℕ) (spelled : List ℕ) (taken : ℕ) (failed : Bool) (fault : Fault)
-      → number ≡ length parts → WhyCut number spelled taken failed fault → WhyCut count spelled taken failed (Moved parts count fault)
-  why_moved parts count number spelled taken failed fault many (inl memory) =
-      inl (moved_memory fault count (slice_get parts fault.input) memory)
-  why_moved parts count number spelled taken failed fault many (inr (inl (is, fails))) =
-      inr (inl (moved_output parts count 0 fault _ is many, fails))
-  why_moved parts count number spelled taken failed fault many (inr (inr (is, long))) =
-      inr (inr (moved_output parts count 0 fault _ is many, long))
+  why_moved : (extents : List FileExtent) (count : ℕ) (number : ℕ) (spelled : List ℕ) (taken : ℕ) (failed : Bool) (fault : Fault)
+      → number ≡ length extents → WhyCut number spelled taken failed fault → WhyCut count spelled taken failed (Moved extents count fault)
+  why_moved extents count number spelled taken failed fault many (inl memory) =
+      inl (moved_memory fault count (slice_get extents fault.input) memory)
+  why_moved extents count number spelled taken failed fault many (inr (inl (is, fails))) =
+      inr (inl (moved_output extents count 0 fault _ is many, fails))
+  why_moved extents count number spelled taken failed fault many (inr (inr (is, long))) =
+      inr (inr (moved_output extents count 0 fault _ is many, long))
 
-  cut_moved : (parts : List FilePart) (count : ℕ) (number : ℕ) (change : Change) (spelled : List ℕ) (fault : Fault)
-      → number ≡ length parts → CutShort number change spelled fault → CutShort count change spelled (Moved parts count fault)
-  cut_moved parts count number change spelled fault many c = record {
+  cut_moved : (extents : List FileExtent) (count : ℕ) (number : ℕ) (change : Change) (spelled : List ℕ) (fault : Fault)
+      → number ≡ length extents → CutShort number change spelled fault → CutShort count change spelled (Moved extents count fault)
+  cut_moved extents count number change spelled fault many c = record {
     count = c.count;
     within = c.within;
     appended = c.appended;
-    why = why_moved parts count number spelled c.count change.failed fault many c.why;
+    why = why_moved extents count number spelled c.count change.failed fault many c.why;
   }
 
   abbrev Why : List F → Fault → Type 0
@@ -297,17 +300,17 @@ module _ {F R : Type 0} (known : F → Option (List ℕ)) (fails : F → Type 0)
   refusal_moved Fails k fault r same other (inl (inr (fails, read))) = inl (inr (fails, same ∙ read))
   refusal_moved Fails k fault r same other (inr none) = inr none
 
-  of_file : (span : Span) (files : List F) (parts : List FilePart) (fault : Fault) → length parts ≡ length files
-      → Refusal span 0 files fault → Why files (Moved parts (length files) fault)
-  of_file span files parts fault many r =
+  of_file : (span : Span) (files : List F) (extents : List FileExtent) (fault : Fault) → length extents ≡ length files
+      → Refusal span 0 files fault → Why files (Moved extents (length files) fault)
+  of_file span files extents fault many r =
       let index : fault.input ≡ r.k = r.input_is ∙ (let e : 0 + r.k ≡ r.k = omega arith in e) in
-      let low : r.k < length parts = ⊎_elim (λ fine. fine)
+      let low : r.k < length extents = ⊎_elim (λ fine. fine)
       (λ far. absurd (let no : None ≡ Some r.file = sym (none_after files r.k (omega (arith, far, many))) ∙ r.at in cc))
-      (cases_lt r.k (length parts)) in
-      let part = some_at parts r.k low in
-      let found : slice_get parts fault.input ≡ Some part.0 = ap (slice_get parts) index ∙ part.1 in
-      let moved : Moved parts (length files) fault ≡ fault_in_part fault (length files) (Some part.0) =
-      ap (fault_in_part fault (length files)) found in
+      (cases_lt r.k (length extents)) in
+      let extent = some_at extents r.k low in
+      let found : slice_get extents fault.input ≡ Some extent.0 = ap (slice_get extents) index ∙ extent.1 in
+      let moved : Moved extents (length files) fault ≡ fault_in_extent fault (length files) (Some extent.0) =
+      ap (fault_in_extent fault (length files)) found in
       subst (Why files) (sym moved)
       (⊎_elim (λ memory. inl (inl memory))
       (λ at. inl (inr (inl (
@@ -321,42 +324,43 @@ module _ {F R : Type 0} (known : F → Option (List ℕ)) (fails : F → Type 0)
       → Pairwise HoldsSorted all held → Pairwise (GoodSet span) files held
   good_sets span = chained (IsGood known fails) HoldsSorted (GoodSet span) (λ file bytes set good holds. (bytes, good, holds))
 
-  -- A refused run over the parts of files is a refused run for the span.
+  -- A refused run over the extents of files is a refused run for the span.
   pub span_refused : (all_objects sliced : Span) (span : Option Span) → sliced ≡ unwrap_or span all_objects
-      → (files : List F) (inputs : List (SliceFile R)) (parts : List FilePart)
-      → length parts ≡ length inputs → AreInputsOf known fails can span files inputs → (selection : Selection) (format : Format)
+      → (files : List F) (inputs : List (SliceFile R)) (extents : List FileExtent)
+      → length extents ≡ length inputs → AreInputsOf known fails can span files inputs → (selection : Selection) (format : Format)
       (change : Change) (fault : Fault)
       → SomeInputsGive (SliceFileCanGive can) inputs
       (λ given. RefusesSlice (record { span = sliced; selection = selection }) given format change fault)
-      → RefusesSpan known fails IsFileRefusal selection format (λ _. span) files change (Moved parts (length files) fault)
-  span_refused all_objects sliced None is files inputs parts many are selection format change fault (given, g, refused) =
+      → RefusesSpan known fails IsFileRefusal selection format (λ _. span) files change (Moved extents (length files) fault)
+  span_refused all_objects sliced None is files inputs extents many are selection format change fault (given, g, refused) =
       let none : given ≡ [] = none_given inputs given are g in
-      let number : length given ≡ length parts = ap length none ∙ sym (many ∙ ap length are) in
+      let number : length given ≡ length extents = ap length none ∙ sym (many ∙ ap length are) in
       let cut : CutShort (length given) change (spell format (selection_of selection (union_of []))) fault =
       refused.cut [] (subst (λ (xs : List (Outside × InputRest)). Pairwise (GivesSlice sliced) xs []) (sym none) tt) in
-      let moved = cut_moved parts (length files) (length given) change (spell format (selection_of selection (union_of []))) fault number
+      let moved = cut_moved extents (length files) (length given) change (spell format (selection_of selection (union_of []))) fault number
       cut in
       record {
         why = of_cut files _ (cut_why (length files) change _ _ moved);
         cut = λ all held good holds few. moved;
       }
-  span_refused all_objects sliced (Some span) is files inputs parts many are selection format change fault (given, g, refused_as) =
+  span_refused all_objects sliced (Some span) is files inputs extents many are selection format change fault (given, g, refused_as) =
       let refused : RefusesSlice (record { span = span; selection = selection }) given format change fault =
       subst (λ (s : Span). RefusesSlice (record { span = s; selection = selection }) given format change fault) is refused_as in
       let inputs_many : length inputs ≡ length given = pairwise_length (SliceFileCanGive can) inputs given
       (as_pairs (SliceFileCanGive can) inputs
       given g) in
       let files_many : length files ≡ length inputs = pairwise_length (Input span) files inputs are in
-      let number : length given ≡ length parts = sym (many ∙ inputs_many) in
+      let number : length given ≡ length extents = sym (many ∙ inputs_many) in
       record {
         why = elim refused.why [
-          | inl cut ↦ of_cut files _ (cut_why (length files) change _ _ (cut_moved parts (length files) (length given) change _ fault number
+          | inl cut ↦ of_cut files _ (cut_why (length files) change _ _
+              (cut_moved extents (length files) (length given) change _ fault number
               cut))
-          | inr f ↦ of_file span files parts fault (many ∙ sym files_many)
+          | inr f ↦ of_file span files extents fault (many ∙ sym files_many)
               (refused_at span 0 f.place files inputs given fault are g f.within f.refusal)
         ];
         cut = λ all held good holds few.
-            cut_moved parts (length files) (length given) change _ fault number
+            cut_moved extents (length files) (length given) change _ fault number
             (refused.cut (map (slice span) held)
             (slices_given span files inputs given held are (good_sets span files all held good holds) g));
       }

@@ -19,7 +19,7 @@ use Rattle.osm_merge.specs.declared.object.Span.{Span}
 use Rattle.osm_merge.specs.declared.selection.Selection.{Selection}
 use Rattle.osm_merge.specs.Selected.{selection_of}
 use Rattle.osm_mirror.specs.declared.run.files_job.Order.TheVariants.{Sorted}
-use Rattle.osm_mirror.specs.declared.run.shard_part.FilePart.{FilePart}
+use Rattle.osm_mirror.specs.declared.run.shard_extent.FileExtent.{FileExtent}
 use Rattle.osm_mirror.specs.declared.run.shard_job.ShardJob.{ShardJob}
 use Rattle.osm_mirror.specs.run.Bounds.{opl_size, shard_span}
 use Rattle.osm_mirror.specs.run.FilesRefusal.{IsFaultOfBytes, IsOutputFault}
@@ -46,10 +46,10 @@ IsFirstFault Fails known fault first = (first ≡ memory_fault)
     ⊎ ((first.input ≡ fault.input) × IsFaultOfFile Fails known first)
     ⊎ ((first ≡ fault) × IfSome known (λ all. (held : VersionSet) × HoldsSorted all held))
 
--- the fault of an input as the fault of its file, if these are the parts that were read of the files
-abbrev pub fault_in_part : Fault → ℕ → Option FilePart → Fault
-fault_in_part fault count None = fault_at count fault.place fault.reason
-fault_in_part fault count (Some part) = fault_at fault.input (offset_in_file part.run fault.place) fault.reason
+-- the fault of an input as the fault of its file, if these are the extents that were read of the files
+abbrev pub fault_in_extent : Fault → ℕ → Option FileExtent → Fault
+fault_in_extent fault count None = fault_at count fault.place fault.reason
+fault_in_extent fault count (Some extent) = fault_at fault.input (offset_in_file extent.run fault.place) fault.reason
 
 module _ {F : Type 0} (known : F → Option (List ℕ)) (fails : F → Type 0) where
   -- the fault has the number of one of these files, and `IsOf` is true for it and this file

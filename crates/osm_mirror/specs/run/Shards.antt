@@ -17,12 +17,12 @@ use Rattle.osm_merge.specs.Slice.{object_order, slices, spans, IsWithin}
 use Rattle.osm_mirror.specs.run.CutOffset.{BeginsLines}
 use Rattle.osm_mirror.specs.run.Job.{union_of}
 
--- the parts of some bytes between offsets, in sequence, from the offset `start` on
+-- the extents of some bytes between offsets, in sequence, from the offset `start` on
 abbrev pub parts_from : ℕ → List ℕ → List ℕ → List (List ℕ)
 parts_from start [] bytes = drop start bytes ∷ []
 parts_from start (offset ∷ offsets) bytes = take (offset - start) (drop start bytes) ∷ parts_from offset offsets bytes
 
--- the parts of a file that is cut at some offsets
+-- the extents of a file that is cut at some offsets
 abbrev pub parts_at : List ℕ → List ℕ → List (List ℕ)
 parts_at offsets bytes = parts_from 0 offsets bytes
 
@@ -37,9 +37,9 @@ abbrev pub AreCuts : List ℕ → List ℕ → Type 0
 AreCuts bytes offsets = AreCutsFrom bytes 0 offsets
 
 -- An OPL file is cut, at offsets at which lines begin, into sorted files that are within the spans of bounds, one for
--- one. Then the OPL file is sorted, and its parts hold the slices of its set.
-abbrev pub PartsHoldTheFile : Type 0
-PartsHoldTheFile =
+-- one. Then the OPL file is sorted, and its extents hold the slices of its set.
+abbrev pub ExtentsHoldTheFile : Type 0
+ExtentsHoldTheFile =
     (bounds : List Object) (bytes offsets : List ℕ) (held : List VersionSet) → length bytes < 2 ^ 62
     → start_of bytes ≡ InOpl → IsSorted object_order bounds → AreCuts bytes offsets
     → Pairwise HoldsSorted (parts_at offsets bytes) held → Pairwise IsWithin (spans bounds) held
@@ -55,20 +55,20 @@ abbrev pub other_sets : List VersionSet → List VersionSet
 other_sets [] = []
 other_sets (s ∷ sets) = sets
 
--- for each span, the sets of all files' parts within it; `parts` has the parts of each file
+-- for each span, the sets of all files' extents within it; `extents` has the extents of each file
 abbrev pub by_span : List Span → List (List VersionSet) → List (List VersionSet)
-by_span [] parts = []
-by_span (span ∷ spans) parts = map first_set parts ∷ by_span spans (map other_sets parts)
+by_span [] extents = []
+by_span (span ∷ spans) extents = map first_set extents ∷ by_span spans (map other_sets extents)
 
--- the slices of the set `held` are `parts`
+-- the slices of the set `held` are `extents`
 abbrev pub HasSlices : List Object → VersionSet → List VersionSet → Type 0
-HasSlices bounds held parts = slices bounds held ≡ parts
+HasSlices bounds held extents = slices bounds held ≡ extents
 
 -- For sets with these slices, one run for each span writes what one run over the sets writes: the OPL files of the
 -- runs, in sequence, are the OPL file of the one run.
 abbrev pub ShardsWriteTheJob : Type 0
 ShardsWriteTheJob =
-    (selection : Selection) (bounds : List Object) (sets : List VersionSet) (parts : List (List VersionSet))
-    → IsSorted object_order bounds → Pairwise (HasSlices bounds) sets parts
+    (selection : Selection) (bounds : List Object) (sets : List VersionSet) (extents : List (List VersionSet))
+    → IsSorted object_order bounds → Pairwise (HasSlices bounds) sets extents
     → spell Opl (selection_of selection (union_of sets))
-    ≡ concat (map (λ sliced. spell Opl (selection_of selection (union_of sliced))) (by_span (spans bounds) parts))
+    ≡ concat (map (λ sliced. spell Opl (selection_of selection (union_of sliced))) (by_span (spans bounds) extents))

@@ -13,7 +13,7 @@ ghost use Rattle.osm_mirror.specs.run.Probes.{HaveBytes, IsTotal, FindsInAll, Fi
 ghost use Rattle.osm_mirror.specs.run.ShardRefusal.{AreRefused, IsFileRefusal};
 
 use crate::run::lines_from::{LinesFrom, lines_before};
-use crate::run::shard_part::opl_size;
+use crate::run::shard_extent::opl_size;
 use osm_files::{Fault, LENGTH_LIMIT, ReadAt};
 use osm_merge::Object;
 use std::alloc::{AllocError, Global};

@@ -12,17 +12,17 @@ ghost use Rattle.osm_merge.specs.Merged.{Grows};
 ghost use Rattle.osm_merge.specs.Slice.{is_ascending, is_ascending_between};
 ghost use Rattle.osm_mirror.specs.run.Bounds.{shard_span, total_weight};
 ghost use Rattle.osm_mirror.specs.run.Probes.{HaveBytes, Ascend};
-ghost use Rattle.osm_mirror.specs.run.ShardPart.{IsPartOf, IsInputOf, AreInputsOf};
+ghost use Rattle.osm_mirror.specs.run.ShardExtent.{IsExtentOf, IsInputOf, AreInputsOf};
 ghost use Rattle.osm_mirror.specs.run.ShardRefusal.{IsFileRefusal, IsFaultOfFile, IsFirstFault, AreRefused};
 ghost use Rattle.osm_mirror.specs.run.ShardRefusal.{RefusesSpan};
-ghost use Rattle.osm_mirror.specs.run.ShardRefusal.{RefusesShardJob, fault_in_part};
+ghost use Rattle.osm_mirror.specs.run.ShardRefusal.{RefusesShardJob, fault_in_extent};
 ghost use Rattle.osm_mirror.specs.run.ShardJob.{IsShardJob, IsSpanJob};
 ghost use Rattle.osm_mirror.specs.run.ShardSpan.{bound_after, span_of_number};
 
 use crate::run::bounds::{Found, bound, find_objects};
 use crate::run::check::run_check_sorted;
 use crate::run::shard::Shard;
-use crate::run::shard_part::{FilePart, part_of};
+use crate::run::shard_extent::{FileExtent, extent_of};
 use crate::run::slice::{Slice, SliceFile, run_slice};
 use osm_files::{Broken, Fault, Format, FramedExtent, Output, ReadAt, Reason, SortedRun};
 use osm_merge::{Counts, Object, Progress, Selection, Span};
@@ -161,8 +161,8 @@ fn write_span<F: ReadAt, W: Output, P: Progress>(
     ensures kept { Grows (change_of W.Output out.old out.new) }
     ensures good { OnOk result (IsGoodThroughout (change_of W.Output out.old out.new)) }
 {
-    let mut parts = Vec::new(alloc);
-    let inputs = open_parts(alloc, span, files, &mut parts)?;
+    let mut extents = Vec::new(alloc);
+    let inputs = open_extents(alloc, span, files, &mut extents)?;
     let slice = Slice {
         span: span.unwrap_or(ALL_OBJECTS),
         selection: job.selection,
@@ -170,21 +170,23 @@ fn write_span<F: ReadAt, W: Output, P: Progress>(
     progress.begin();
     match run_slice(alloc, slice, inputs, job.format, out, progress) {
         Ok(counts) => Ok(counts),
-        Err(fault) => Err(fault_of_file(parts.as_slice(), files.len(), fault)),
+        Err(fault) => Err(fault_of_file(extents.as_slice(), files.len(), fault)),
     }
 }
 
-/// The parts of the files within `span`, as inputs, which are appended to `parts`, too. Without a span there are none.
-fn open_parts<'f, F: ReadAt>(
+/// The extents of the files within `span`, as inputs. The extents are appended to `extents`, too. Without a span there
+/// are none.
+fn open_extents<'f, F: ReadAt>(
     alloc: Global,
     span: Option<Span>,
     files: &[&'f F],
-    parts: &mut Vec<FilePart>,
+    extents: &mut Vec<FileExtent>,
 ) -> Result<Vec<SliceFile<FramedExtent<'f, F>>>, Fault>
     requires ascends { IfSome span (λ span. is_ascending span ≡ true) }
     ensures inputs { IfOk result (λ inputs. AreInputsOf (λ file. F.bytes file.now) (λ file. F.fails file.now)
         (FramedCanGive F.fails F.bytes) span files.now inputs.items) }
-    ensures parts { IfOk result (λ inputs. length parts.new.items ≡ length parts.old.items + length inputs.items) }
+    ensures extents { IfOk result (λ inputs.
+        length extents.new.items ≡ length extents.old.items + length inputs.items) }
     ensures refused { IfErr result (AreRefused (λ file. F.bytes file.now) (λ file. F.fails file.now) IsFileRefusal
         files.now) }
 {
@@ -193,38 +195,38 @@ fn open_parts<'f, F: ReadAt>(
         return Ok(inputs);
     };
     'files: for (number, file) in files.iter().enumerate() {
-        let part = part_of(alloc, *file, number, span)?;
-        parts.push(part)?;
-        inputs.push(open_part(*file, span, part))?;
+        let extent = extent_of(alloc, *file, number, span)?;
+        extents.push(extent)?;
+        inputs.push(open_extent(*file, span, extent))?;
     }
     Ok(inputs)
 }
 
-/// A part of a file within `span` as an input.
-fn open_part<'f, F: ReadAt>(
+/// An extent of a file within `span` as an input.
+fn open_extent<'f, F: ReadAt>(
     file: &'f F,
     span: Span,
-    part: FilePart,
+    extent: FileExtent,
 ) -> SliceFile<FramedExtent<'f, F>>
-    requires part { IsPartOf span (F.bytes file.now) part }
+    requires extent { IsExtentOf span (F.bytes file.now) extent }
     ensures { IsInputOf (λ file. F.bytes file.now) (λ file. F.fails file.now) (FramedCanGive F.fails F.bytes) span
         file.entry result }
 {
     SliceFile {
-        reader: FramedExtent::of_run(file, part.size, part.run),
-        outside: part.outside,
+        reader: FramedExtent::of_run(file, extent.size, extent.run),
+        outside: extent.outside,
     }
 }
 
 /// The fault of an input as the fault of its file, whose place is the offset in the file. A fault of the output gets
 /// the number of files.
-fn fault_of_file(parts: &[FilePart], files: usize, fault: Fault) -> Fault
-    ensures { result ≡ fault_in_part fault files (slice_get parts.now fault.input) }
+fn fault_of_file(extents: &[FileExtent], files: usize, fault: Fault) -> Fault
+    ensures { result ≡ fault_in_extent fault files (slice_get extents.now fault.input) }
 {
-    match parts.get(fault.input) {
-        Some(part) => Fault::at(
+    match extents.get(fault.input) {
+        Some(extent) => Fault::at(
             fault.input,
-            part.run.offset_in_file(fault.place),
+            extent.run.offset_in_file(fault.place),
             fault.reason,
         ),
         None => Fault::at(files, fault.place, fault.reason),
@@ -233,7 +235,7 @@ fn fault_of_file(parts: &[FilePart], files: usize, fault: Fault) -> Fault
 
 /// The first fault of the file that a fault names, if it isn't a sorted file; otherwise the fault itself.
 ///
-/// Why: a part of a file shows some fault of the file, and not the first one.
+/// Why: an extent of a file shows some fault of the file, and not the first one.
 fn first_fault<F: ReadAt>(alloc: Global, files: &[&F], fault: Fault) -> Fault
     ensures file { AreRefused (λ file. F.bytes file.now) (λ file. F.fails file.now) IsFileRefusal files.now fault
         → AreRefused (λ file. F.bytes file.now) (λ file. F.fails file.now) IsFaultOfFile files.now result }

@@ -26,6 +26,6 @@ returns-clause-refused g c =
     let fails : Bor g.row.F.Denot → Type 0 = λ file. g.F.ReadAt.fails file.now in
     rw c.fault_of_file.ensures (span_refused known fails (FramedCanGive g.F.ReadAt.fails g.F.ReadAt.bytes)
     _ c.unwrap_or.result c.args.span c.unwrap_or.ensures c.args.files.now c.in_ok-inputs.inputs.items c.as_slice.result.now
-    (omega (arith, ap length c.as_slice.ensures.value, c.in_ok-inputs.ensures.parts))
+    (omega (arith, ap length c.as_slice.ensures.value, c.in_ok-inputs.ensures.extents))
     c.in_ok-inputs.ensures.inputs c.args.job.selection c.args.job.format
     (change_of g.W.Output c.args.out.now c.run_slice.new.out) c.in-Err.fault c.in-Err.ensures.refused)

@@ -1,4 +1,4 @@
--- The part of a sorted OPL file within a span holds the slice of what the file holds.
+-- The extent of a sorted OPL file within a span holds the slice of what the file holds.
 use Rattle.std.proofs.Common.{◌≡◌, ◌⊎◌, inl, inr, ⊎_elim, ℕ, zero, suc, ◌+◌, ◌-◌, ◌≤◌, ◌<◌, Bool, true, false, not, ◌&&◌, ◌||◌, cond}
 use Rattle.std.proofs.Common.{List, [], ◌∷◌, ◌++◌, length, take, drop, Option, Some, None, refl, sym, ap, ◌∙◌, subst, arith, append-nil}
 use Rattle.std.proofs.Common.{take-append-drop}
@@ -31,7 +31,7 @@ use Rattle.osm_merge.specs.Slice.{slice_of, is_ascending, is_ascending_between, 
 use Rattle.osm_merge.proofs.SliceLaws.{kept_in}
 use Rattle.osm_files.proofs.SpellLaws.{equal_sets as equal}
 use Rattle.osm_mirror.specs.run.CutOffset.{IsUnderBefore}
-use Rattle.osm_mirror.specs.run.ShardPart.{BeginsAt, EndsAt, IsPartWithin}
+use Rattle.osm_mirror.specs.run.ShardExtent.{BeginsAt, EndsAt, IsPartWithin}
 use Rattle.osm_mirror.proofs.run_laws.CutLaws.{cuts_rise}
 use Rattle.osm_mirror.proofs.run_laws.SplitLineLaws.{SplitLines, split_versions, part_ends, part_whole}
 
@@ -182,7 +182,7 @@ module _ (all : List ℕ) (held : VersionSet) (h : HoldsSorted all held) (opl : 
     ends : (start : ℕ) → start ≤ end →
         (take (end - start) (drop start all) ≡ []) ⊎ (drop end all ≡ []) ⊎ Ended (take (end - start) (drop start all))
 
-  -- a file in two parts
+  -- a file in two extents
   to_at : (to : Option Object) (end : ℕ) → EndsAt all to end → To to end
   to_at None end is =
       let none : drop end all ≡ [] = nil_from_length (drop end all) (omega (arith, is, length-drop end all)) in
@@ -212,9 +212,9 @@ module _ (all : List ℕ) (held : VersionSet) (h : HoldsSorted all held) (opl : 
   middle : (from to : Option Object) (start end : ℕ) → start ≤ end → From from start → To to end →
       OplFile (take (end - start) (drop start all)) (filter (is_within from to) h.versions)
   middle from to start end up f t =
-      let part : List ℕ = take (end - start) (drop start all) in
+      let extent : List ℕ = take (end - start) (drop start all) in
       let s : SplitLines (drop start all) (drop end all) =
-      record { front = part; whole = part_whole all start end up; ends = t.ends start up } in
+      record { front = extent; whole = part_whole all start end up; ends = t.ends start up } in
       let v = split_versions (drop start all) (drop end all) s (filter (reaches from) h.versions) f.rest in
       let last : v.later ≡ t.later = one_opl (drop end all) v.later t.later v.second t.rest in
       let reach : filter (reaches from) v.later ≡ v.later = passing (reaches from) v.later
@@ -225,9 +225,9 @@ module _ (all : List ℕ) (held : VersionSet) (h : HoldsSorted all held) (opl : 
       ∙ filter-append (reaches from) (filter (is_under to) h.versions) t.later
       ∙ (λ i. passing_both (reaches from) (is_under to) h.versions i ++ filter (reaches from) (sym last i))
       ∙ ap (λ vs. filter (is_within from to) h.versions ++ vs) reach in
-      subst (OplFile part) (append_cancel_right v.earlier (filter (is_within from to) h.versions) v.later both) v.first
+      subst (OplFile extent) (append_cancel_right v.earlier (filter (is_within from to) h.versions) v.later both) v.first
 
--- The part of a sorted OPL file within a span is a sorted file, and holds the slice of what the file holds.
+-- The extent of a sorted OPL file within a span is a sorted file, and holds the slice of what the file holds.
 pub part_holds : (span : Span) (all : List ℕ) (start end : ℕ) (held : VersionSet) → start_of all ≡ InOpl → HoldsSorted all held →
     IsPartWithin span all start end → HoldsSorted (take (end - start) (drop start all)) (slice_of span.from span.to held)
 part_holds span all start end held opl h within =
@@ -250,7 +250,7 @@ rises_between (Some a) None all start end versions file sorted rises begins ends
 rises_between (Some a) (Some b) all start end versions file sorted rises begins ends =
     cuts_rise a b (is_not _ rises) all start end versions file sorted begins.0 ends.0 ends.1.line
 
--- The part of a sorted OPL file within a span doesn't end before it begins.
+-- The extent of a sorted OPL file within a span doesn't end before it begins.
 pub part_rises : (span : Span) (all : List ℕ) (start end : ℕ) (held : VersionSet) → is_ascending span ≡ true → start_of all ≡ InOpl →
     HoldsSorted all held → BeginsAt all span.from start → EndsAt all span.to end → start ≤ end
 part_rises span all start end held rises opl h begins ends =

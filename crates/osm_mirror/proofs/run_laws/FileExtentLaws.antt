@@ -1,4 +1,4 @@
--- The parts of files that a run for a span reads give the slices of the files' sets, or show that a file isn't sorted.
+-- The extents of files that a run for a span reads give the slices of the files' sets, or show that a file isn't sorted.
 use Rattle.std.proofs.Common.{◌≡◌, ◌⊎◌, inl, inr, ⊎_elim, ℕ, ◌+◌, ◌-◌, ◌≤◌, ◌<◌, ◌^◌, Bool, true, false, not, ◌&&◌, ◌||◌, cond, List, []}
 use Rattle.std.proofs.Common.{◌∷◌, ◌++◌, length, take, drop, Option, Some, None, IfSome, refl, sym, ap, ◌∙◌, subst, arith, append-nil}
 use Rattle.std.specs.Cmp.{Equal-is, tied_itself}
@@ -43,24 +43,24 @@ use Rattle.osm_merge.specs.ToCome as source
 use Rattle.osm_merge.specs.Within.{up_to, from_bound, stray_fault}
 use Rattle.osm_merge.proofs.SliceLaws.{kept_in, under_down, none_after}
 use Rattle.osm_files.proofs.SpellLaws.{equal_sets as equal}
-use Rattle.osm_mirror.specs.declared.run.shard_part.FilePart.{FilePart}
+use Rattle.osm_mirror.specs.declared.run.shard_extent.FileExtent.{FileExtent}
 use Rattle.osm_mirror.specs.run.Bounds.{is_opl}
 use Rattle.std.proofs.Common.{Result, Ok, Err, IfOk}
 use Rattle.osm_mirror.specs.run.CutOffset.{BeginsAs, BeginsLinesOf, IsCutOf, IsCutRefusal}
-use Rattle.osm_mirror.specs.run.ShardPart.{lines_between, IsFilePart, IsPartOf, BeginsAtOf, EndsAtOf}
+use Rattle.osm_mirror.specs.run.ShardExtent.{lines_between, IsFileExtent, IsExtentOf, BeginsAtOf, EndsAtOf}
 use Rattle.osm_mirror.specs.run.Merge.{GivesSorted}
 use Rattle.osm_mirror.specs.run.ShardRefusal.{IsFileRefusal}
 use Rattle.osm_mirror.specs.run.SliceJob.{given_slice, IsPartRead, HasSlice, GivesSlice}
 use Rattle.osm_mirror.proofs.run_laws.InputRefusalLaws.{has_number}
 use Rattle.osm_mirror.specs.declared.run.files_job.Order.TheVariants.{Sorted}
-use Rattle.osm_mirror.proofs.run_laws.ShardPartLaws.{part_holds, part_rises, within_itself}
+use Rattle.osm_mirror.proofs.run_laws.ShardExtentLaws.{part_holds, part_rises, within_itself}
 use Rattle.osm_mirror.proofs.run_laws.ProbeLaws.{opl_is, opl_starts, opl_file, probe_refuses}
 use Rattle.osm_mirror.proofs.fleet_laws.MergesLaws.{as_held}
 
--- ---- the part of a file
+-- ---- the extent of a file
 pub lines_part : (known : Option (List ℕ)) (span : Span) (size_is start end : ℕ) → BeginsAs known 0 false →
     IfSome known (λ all. size_is ≡ length all) → BeginsAtOf known span.from start → EndsAtOf known span.to end → start ≤ end →
-    IsPartOf span known (record { run = lines_between start end; size = size_is; outside = Refused })
+    IsExtentOf span known (record { run = lines_between start end; size = size_is; outside = Refused })
 lines_part None span size_is start end h is begins ends up = tt
 lines_part (Some all) span size_is start end h is begins ends up = λ short. record {
   size = sym is;
@@ -71,12 +71,12 @@ lines_part (Some all) span size_is start end h is begins ends up = λ short. rec
   });
 }
 
-pub whole_part : (known : Option (List ℕ)) (span : Span) (size_is : ℕ) (run : SortedRun) → IfSome known (λ all. size_is ≡ length all) →
-    run ≡ whole_run → IsPartOf span known (record { run = run; size = size_is; outside = Dropped })
-whole_part None span size_is run is whole = tt
-whole_part (Some all) span size_is run is whole = λ short. record { size = sym is; read = inl (refl, whole) }
+pub whole_extent : (known : Option (List ℕ)) (span : Span) (size_is : ℕ) (run : SortedRun) → IfSome known (λ all. size_is ≡ length all) →
+    run ≡ whole_run → IsExtentOf span known (record { run = run; size = size_is; outside = Dropped })
+whole_extent None span size_is run is whole = tt
+whole_extent (Some all) span size_is run is whole = λ short. record { size = sym is; read = inl (refl, whole) }
 
--- a cut at which a line begins is where the part of a file begins or ends
+-- a cut at which a line begins is where the extent of a file begins or ends
 pub cut_begins : (known : Option (List ℕ)) (bound : Object) (start : ℕ) → IsCutOf known bound start → BeginsLinesOf known start →
     BeginsAtOf known (Some bound) start
 cut_begins None bound start cut begins = tt
@@ -92,14 +92,14 @@ pub both_ok : {E : Type 0} (P Q R : ℕ → Type 0) → ((n : ℕ) → P n → Q
 both_ok P Q R f (Ok n) p q = f n p q
 both_ok P Q R f (Err e) p q = tt
 
--- ---- refusals of a file before its part is read
+-- ---- refusals of a file before its extent is read
 -- a refusal of a cut of an OPL file is one of the file
 pub cut_refuses : (Fails : Type 0) (known : Option (List ℕ)) (fault : Fault) → BeginsAs known 0 false → IsCutRefusal Fails known fault →
     IsFileRefusal Fails known fault
 cut_refuses Fails None fault opl refused = inr tt
 cut_refuses Fails (Some all) fault opl refused = probe_refuses Fails (Some all) (length all) fault (opl_is all false opl, refl) refused
 
--- a file whose part ends before it begins isn't sorted
+-- a file whose extent ends before it begins isn't sorted
 pub part_falls : (Fails : Type 0) (known : Option (List ℕ)) (span : Span) (start end : ℕ) (fault : Fault) → is_ascending span ≡ true →
     BeginsAs known 0 false → BeginsAtOf known span.from start → EndsAtOf known span.to end → end < start →
     IsFileRefusal Fails known fault
@@ -135,9 +135,9 @@ none_outside : (span : Span) (set : VersionSet) (front rest : List VersionData) 
     → list_any (λ v. not (is_within span.from span.to v)) front ≡ true → ⊥
 none_outside span set front rest are h =
     let p : VersionData → Bool = is_within span.from span.to in
-    let part : VersionSet = slice_of span.from span.to set in
-    let w = witness (λ v. not (p v)) (to_list part) (ap (list_any (λ v. not (p v))) are ∙ any_of_front (λ v. not (p v)) front rest h) in
-    let kept : (contains set w.0 && p w.0) ≡ true = sym (kept_in set p w.0) ∙ contains-listed part w.0 ∙ w.2 in
+    let extent : VersionSet = slice_of span.from span.to set in
+    let w = witness (λ v. not (p v)) (to_list extent) (ap (list_any (λ v. not (p v))) are ∙ any_of_front (λ v. not (p v)) front rest h) in
+    let kept : (contains set w.0 && p w.0) ≡ true = sym (kept_in set p w.0) ∙ contains-listed extent w.0 ∙ w.2 in
     (elim (p w.0) as (λ t. not t ≡ true → (contains set w.0 && t) ≡ true → ⊥) [
       | true ↦ λ e k. false≢true e
       | false ↦ λ e k. (elim (contains set w.0) as (λ t. (t && false) ≡ true → ⊥) [
@@ -222,25 +222,25 @@ up_to_refused p end r (v ∷ versions) fault h =
       | false ↦ λ k. inr (k, refl)
     ] h
 
--- ---- the bytes of a part
+-- ---- the bytes of an extent
 whole_bytes : (all : List ℕ) → length all < 2 ^ 62 → run_bytes whole_run all ≡ all
 whole_bytes all short = append-nil (take (2 ^ 64 - 1) all) ∙ take_all (2 ^ 64 - 1) all (omega (arith, short))
 
 lines_bytes : (all : List ℕ) (start end : ℕ) → run_bytes (lines_between start end) all ≡ take (end - start) (drop start all)
 lines_bytes all start end = append-nil (take (end - start) (drop start all))
 
--- what the part of a sorted file holds: the slice, or all of the file
-module _ (span : Span) (all : List ℕ) (part : FilePart) (set : VersionSet) where
+-- what the extent of a sorted file holds: the slice, or all of the file
+module _ (span : Span) (all : List ℕ) (extent : FileExtent) (set : VersionSet) where
   abbrev PartSet : Outside → VersionSet → Type 0
   PartSet Refused held = held ≡ slice_of span.from span.to set
   PartSet Dropped held = held ≡ set
 
   record PartHolds : Type 0 where
     held : VersionSet
-    holds : HoldsSorted (run_bytes part.run all) held
-    is : PartSet part.outside held
+    holds : HoldsSorted (run_bytes extent.run all) held
+    is : PartSet extent.outside held
 
-  holds_part : IsFilePart span all part → HoldsSorted all set → PartHolds
+  holds_part : IsFileExtent span all extent → HoldsSorted all set → PartHolds
   holds_part is h =
       ⊎_elim (λ (outside, run). record {
         held = set;
@@ -255,31 +255,31 @@ module _ (span : Span) (all : List ℕ) (part : FilePart) (set : VersionSet) whe
         is = subst (λ (x : Outside). PartSet x (slice_of span.from span.to set)) (sym lines.outside) refl;
       }) is.read
 
--- ---- what the input of a part gives
-module _ (span : Span) (Fails : Type 0) (all : List ℕ) (part : FilePart) (part_is : length all < 2 ^ 62 → IsFilePart span all part)
-    (outside : Outside) (outside_is : outside ≡ part.outside) where
+-- ---- what the input of an extent gives
+module _ (span : Span) (Fails : Type 0) (all : List ℕ) (extent : FileExtent) (part_is : length all < 2 ^ 62 → IsFileExtent span all extent)
+    (outside : Outside) (outside_is : outside ≡ extent.outside) where
   -- ---- a sorted file
   module _ (set : VersionSet) (h : HoldsSorted all set) where
-    is : IsFilePart span all part
+    is : IsFileExtent span all extent
     is = part_is h.short
 
-    p : PartHolds span all part set
-    p = holds_part span all part set is h
+    p : PartHolds span all extent set
+    p = holds_part span all extent set is h
 
-    set_is : (o : Outside) → o ≡ outside → PartSet span all part set o p.held
-    set_is o e = subst (λ (x : Outside). PartSet span all part set x p.held) (sym (e ∙ outside_is)) p.is
+    set_is : (o : Outside) → o ≡ outside → PartSet span all extent set o p.held
+    set_is o e = subst (λ (x : Outside). PartSet span all extent set x p.held) (sym (e ∙ outside_is)) p.is
 
-    whole_input : (c : InputRest) → RunCanGive Fails (Some all) part.run part.size c → c.broken ≡ false → HoldsSorted c.bytes p.held
+    whole_input : (c : InputRest) → RunCanGive Fails (Some all) extent.run extent.size c → c.broken ≡ false → HoldsSorted c.bytes p.held
     whole_input c gives unbroken =
-        subst (λ b. HoldsSorted b p.held) (sym (run_given Fails all part.run part.size c is.size gives unbroken)) p.holds
+        subst (λ b. HoldsSorted b p.held) (sym (run_given Fails all extent.run extent.size c is.size gives unbroken)) p.holds
 
-    -- what a source gives is the front of what the part holds
+    -- what a source gives is the front of what the extent holds
     given_front : (number : ℕ) (bytes : List ℕ) (broken : Bool)
-        → RunCanGive Fails (Some all) part.run part.size (record { bytes = bytes; broken = broken })
+        → RunCanGive Fails (Some all) extent.run extent.size (record { bytes = bytes; broken = broken })
         → (rest : List VersionData)
         × (to_list p.held ≡ (sorted_source number (record { bytes = bytes; broken = broken })).list ++ rest)
     given_front number bytes true gives =
-        let front = run_front Fails all part.run part.size bytes gives in
+        let front = run_front Fails all extent.run extent.size bytes gives in
         front_given number bytes front.0 p.held (subst (λ b. HoldsSorted b p.held) front.1 p.holds)
     given_front number bytes false gives = (
       [],
@@ -288,7 +288,7 @@ module _ (span : Span) (Fails : Type 0) (all : List ℕ) (part : FilePart) (part
     )
 
     dropped_is : (number : ℕ) (bytes : List ℕ) (broken : Bool) (found : VersionSet)
-        → RunCanGive Fails (Some all) part.run part.size (record { bytes = bytes; broken = broken }) → p.held ≡ set
+        → RunCanGive Fails (Some all) extent.run extent.size (record { bytes = bytes; broken = broken }) → p.held ≡ set
         → IsPartRead span (sorted_source number (record { bytes = bytes; broken = broken })) found
         → found ≡ slice_of span.from span.to set
     dropped_is number bytes broken found gives whole read =
@@ -305,16 +305,16 @@ module _ (span : Span) (Fails : Type 0) (all : List ℕ) (part : FilePart) (part
         ap (λ t. (sorted_source number (record { bytes = bytes; broken = t })).list) unbroken
         ∙ ap (λ s. s.list) (source_gives_held number bytes p.held
         (whole_input (record { bytes = bytes; broken = false })
-        (subst (λ t. RunCanGive Fails (Some all) part.run part.size (record { bytes = bytes; broken = t })) unbroken gives) refl)) in
+        (subst (λ t. RunCanGive Fails (Some all) extent.run extent.size (record { bytes = bytes; broken = t })) unbroken gives) refl)) in
         read.slice ∙ ap (λ vs. slice_of span.from span.to (from_list {R = version_cmp} vs)) list
         ∙ ap (slice_of span.from span.to) (set_listed p.held ∙ whole)))
         (λ over. read.slice ∙ front_slice span p.held (sorted_source number c).list front.0 front.1 over
         ∙ ap (slice_of span.from span.to) whole)
         read.complete
 
-    -- the set that a run takes of the part is the slice
+    -- the set that a run takes of the extent is the slice
     pub found_is : (given : Outside × InputRest) (found : VersionSet) → given.0 ≡ outside
-        → RunCanGive Fails (Some all) part.run part.size given.1 → HasSlice span given found → found ≡ slice_of span.from span.to set
+        → RunCanGive Fails (Some all) extent.run extent.size given.1 → HasSlice span given found → found ≡ slice_of span.from span.to set
     found_is (Refused, c) found e gives slice =
         held_is_one_set c.bytes found p.held (as_held c.bytes found slice.0.file)
         (as_held c.bytes p.held (whole_input c gives slice.0.unbroken)) ∙ set_is Refused e
@@ -324,48 +324,48 @@ module _ (span : Span) (Fails : Type 0) (all : List ℕ) (part : FilePart) (part
     unbroken_if true never = absurd (never refl)
     unbroken_if false never = refl
 
-    -- the part of a good file has the slice
+    -- the extent of a good file has the slice
     pub good_is : (Fails → ⊥) → (given : Outside × InputRest) → given.0 ≡ outside
-        → RunCanGive Fails (Some all) part.run part.size given.1 → GivesSlice span given (slice_of span.from span.to set)
+        → RunCanGive Fails (Some all) extent.run extent.size given.1 → GivesSlice span given (slice_of span.from span.to set)
     good_is never (Refused, c) e gives =
-        let unbroken = unbroken_if c.broken (λ b. never (broken_fails Fails all part.run part.size c is.size gives b)) in (
+        let unbroken = unbroken_if c.broken (λ b. never (broken_fails Fails all extent.run extent.size c is.size gives b)) in (
           subst (λ (s : VersionSet). GivesSorted c s) (set_is Refused e)
               (record { unbroken = unbroken; file = whole_input c gives unbroken }),
           within_itself span set,
         )
     good_is never (Dropped, c) e gives =
-        let unbroken = unbroken_if c.broken (λ b. never (broken_fails Fails all part.run part.size c is.size gives b)) in (
+        let unbroken = unbroken_if c.broken (λ b. never (broken_fails Fails all extent.run extent.size c is.size gives b)) in (
           set,
           subst (λ (s : VersionSet). GivesSorted c s) (set_is Dropped e)
               (record { unbroken = unbroken; file = whole_input c gives unbroken }),
           refl,
         )
 
-    -- no version of the part is outside of the span
-    none_strays : (number : ℕ) (c : InputRest) → Refused ≡ outside → RunCanGive Fails (Some all) part.run part.size c
+    -- no version of the extent is outside of the span
+    none_strays : (number : ℕ) (c : InputRest) → Refused ≡ outside → RunCanGive Fails (Some all) extent.run extent.size c
         → list_any (λ v. not (is_within span.from span.to v)) (sorted_source number c).list ≡ true → ⊥
     none_strays number c e gives stray =
         let front = given_front number c.bytes c.broken gives in
         none_outside span set (sorted_source number c).list front.0 (ap to_list (sym (set_is Refused e)) ∙ front.1) stray
 
-    -- the part has no verdict
-    no_verdict : (v : Verdict) → verdict_sorted (run_bytes part.run all) ≡ Some v → ⊥
+    -- the extent has no verdict
+    no_verdict : (v : Verdict) → verdict_sorted (run_bytes extent.run all) ≡ Some v → ⊥
     no_verdict v e =
         let b = p.holds in
-        let none : verdict_sorted (run_bytes part.run all) ≡ None =
-        sorted_files_are_read (run_bytes part.run all) b.versions b.short b.file b.sorted in
+        let none : verdict_sorted (run_bytes extent.run all) ≡ None =
+        sorted_files_are_read (run_bytes extent.run all) b.versions b.short b.file b.sorted in
         (let no : None ≡ Some v = sym none ∙ e in cc)
 
   -- ---- any file
-  source_fault : (number : ℕ) (c : InputRest) (fault : Fault) → RunCanGive Fails (Some all) part.run part.size c
-      → length all ≡ part.size → (sorted_source number c).refusal ≡ Some fault
+  source_fault : (number : ℕ) (c : InputRest) (fault : Fault) → RunCanGive Fails (Some all) extent.run extent.size c
+      → length all ≡ extent.size → (sorted_source number c).refusal ≡ Some fault
       → IsReadFailure Fails fault ⊎ ((held : VersionSet) → HoldsSorted all held → ⊥)
   source_fault number c fault gives size_is e =
       ⊎_elim (λ failure. inl failure) (λ (v, verdict_is, same). inr (λ held h. no_verdict held h v verdict_is))
-      (run_refuses Fails all part.run part.size number fault size_is (c, gives, inr e))
+      (run_refuses Fails all extent.run extent.size number fault size_is (c, gives, inr e))
 
   part_fault : (number : ℕ) (given : Outside × InputRest) (fault : Fault) → given.0 ≡ outside
-      → RunCanGive Fails (Some all) part.run part.size given.1 → length all ≡ part.size
+      → RunCanGive Fails (Some all) extent.run extent.size given.1 → length all ≡ extent.size
       → (given_slice span number given).refusal ≡ Some fault
       → IsReadFailure Fails fault ⊎ ((held : VersionSet) → HoldsSorted all held → ⊥)
   part_fault number (Dropped, c) fault e gives size_is refused =
@@ -379,9 +379,9 @@ module _ (span : Span) (Fails : Type 0) (all : List ℕ) (part : FilePart) (part
       (up_to_refused (is_within span.from span.to) (end_refused (stray_fault number)) (sorted_source number c).refusal
       (sorted_source number c).list fault refused)
 
-  -- A refusal of the part is one of the file.
+  -- A refusal of the extent is one of the file.
   pub fault_is : (number : ℕ) (given : Outside × InputRest) (fault : Fault) → given.0 ≡ outside
-      → RunCanGive Fails (Some all) part.run part.size given.1 → (given_slice span number given).refusal ≡ Some fault
+      → RunCanGive Fails (Some all) extent.run extent.size given.1 → (given_slice span number given).refusal ≡ Some fault
       → IsReadFailure Fails fault ⊎ ((held : VersionSet) → HoldsSorted all held → ⊥)
   fault_is number given fault e gives refused =
       ⊎_elim (λ short. part_fault number given fault e gives (part_is short).size refused)

@@ -1,8 +1,8 @@
 use Rattle.std.proofs.Common.{IfOk, Some, sym, subst}
 use Rattle.osm_mirror.specs.run.CutOffset.{IsCutOf, BeginsLinesOf}
-use Rattle.osm_mirror.specs.run.ShardPart.{EndsAtOf}
-use Rattle.osm_mirror.proofs.run_laws.FilePartLaws.{both_ok, cut_ends}
-use Rattle.osm_mirror.proofs.run.shard_part.end.Goals as goal
+use Rattle.osm_mirror.specs.run.ShardExtent.{EndsAtOf}
+use Rattle.osm_mirror.proofs.run_laws.FileExtentLaws.{both_ok, cut_ends}
+use Rattle.osm_mirror.proofs.run.shard_extent.end.Goals as goal
 
 pub returns-in-Some-clause-ends : goal.returns-in-Some-clause-ends
 returns-in-Some-clause-ends g c =

@@ -1,8 +1,8 @@
 use Rattle.std.proofs.Common.{IfOk, Some, sym, subst}
 use Rattle.osm_mirror.specs.run.CutOffset.{IsCutOf, BeginsLinesOf}
-use Rattle.osm_mirror.specs.run.ShardPart.{BeginsAtOf}
-use Rattle.osm_mirror.proofs.run_laws.FilePartLaws.{both_ok, cut_begins}
-use Rattle.osm_mirror.proofs.run.shard_part.begin.Goals as goal
+use Rattle.osm_mirror.specs.run.ShardExtent.{BeginsAtOf}
+use Rattle.osm_mirror.proofs.run_laws.FileExtentLaws.{both_ok, cut_begins}
+use Rattle.osm_mirror.proofs.run.shard_extent.begin.Goals as goal
 
 pub returns-in-Some-clause-begins : goal.returns-in-Some-clause-begins
 returns-in-Some-clause-begins g c =

@@ -4,12 +4,12 @@ use Rattle.std.proofs.lemmas.List.{take_all}
 use Rattle.osm_files.specs.FileInput.{FramedCanGive}
 use Rattle.osm_model.specs.Pairwise.{Pairwise}
 use Rattle.osm_model.proofs.PairwiseLaws.{pairwise_push}
-use Rattle.osm_mirror.specs.run.ShardPart.{IsInputOf, AreInputsOf}
+use Rattle.osm_mirror.specs.run.ShardExtent.{IsInputOf, AreInputsOf}
 use Rattle.osm_mirror.specs.run.ShardRefusal.{IsFileRefusal}
 use Rattle.osm_mirror.proofs.run_laws.FilesJobLaws.{take_more}
 use Rattle.osm_mirror.proofs.run_laws.WayLaws.{get_slice}
 use Rattle.osm_mirror.proofs.run_laws.SpanJobLaws.{one_refused}
-use Rattle.osm_mirror.proofs.run.shard_job.open_parts.Goals as goal
+use Rattle.osm_mirror.proofs.run.shard_job.open_extents.Goals as goal
 
 pub files-preserved : goal.files-preserved
 files-preserved g c =
@@ -22,15 +22,16 @@ files-preserved g c =
     let pushed = c.in_ok-push-2.ensures.items in (
       subst (λ fs. Pairwise (IsInputOf known fails can c.in-Some.span) fs c.push-in-files.new.self.items) (sym more)
           (subst (λ xs. Pairwise (IsInputOf known fails can c.in-Some.span) (take c.files.number files ++ file ∷ []) xs) (sym pushed)
-          (pairwise_push (IsInputOf known fails can c.in-Some.span) (take c.files.number files) c.files.inputs.items file c.open_part.result
-          c.files.invariant.0 c.open_part.ensures)),
+          (pairwise_push (IsInputOf known fails can c.in-Some.span) (take c.files.number files) c.files.inputs.items file
+          c.open_extent.result
+          c.files.invariant.0 c.open_extent.ensures)),
       omega (
         arith,
         c.files.invariant.1,
         ap length pushed,
         ap length c.in_ok-push.ensures.items,
-        length-append c.files.inputs.items (c.open_part.result ∷ []),
-        length-append c.files.parts.items (c.in_ok-part.part ∷ []),
+        length-append c.files.inputs.items (c.open_extent.result ∷ []),
+        length-append c.files.extents.items (c.in_ok-part.extent ∷ []),
       ),
     )
 

@@ -1,10 +1,10 @@
-//! The part of a file that a job for a shard reads.
+//! The extent of a file that a job for a shard reads.
 ghost use Rattle.std.specs.Prelude.{◌≡◌, ◌<◌, true, false, length, IfOk, IfErr, IfSome};
 ghost use Rattle.osm_files.specs.Fault.{IsOfFile};
 ghost use Rattle.osm_files.specs.FileRuns.{IsReadFailure};
 ghost use Rattle.osm_merge.specs.Slice.{is_ascending};
 ghost use Rattle.osm_mirror.specs.run.CutOffset.{BeginsAs, IsCutRefusal};
-ghost use Rattle.osm_mirror.specs.run.ShardPart.{IsOplSize, BeginsAtOf, EndsAtOf, IsPartOf};
+ghost use Rattle.osm_mirror.specs.run.ShardExtent.{IsOplSize, BeginsAtOf, EndsAtOf, IsExtentOf};
 ghost use Rattle.osm_mirror.specs.run.ShardRefusal.{IsFileRefusal};
 
 use crate::run::cut::{begins_as_o5, cut_offset};
@@ -15,10 +15,10 @@ use std::alloc::Global;
 /// The size of the largest OPL file that is read whole. It takes less time than two searches for offsets.
 const SMALL_SIZE: u64 = 4096;
 
-/// The part of a file that is read for a shard.
+/// The extent of a file that is read for a shard.
 #[derive(Clone, Copy, Debug, PartialEq, Eq)]
-pub(crate) struct FilePart {
-    /// The bytes of the part.
+pub(crate) struct FileExtent {
+    /// The bytes of the extent.
     pub(crate) run: SortedRun,
     /// The size of the file.
     pub(crate) size: u64,
@@ -51,27 +51,27 @@ fn size_of<F: ReadAt>(file: &F, input: usize) -> Result<u64, Fault>
     }
 }
 
-/// The part of a file that is read for the objects within `span`: the lines within it of an OPL file; or all of an o5
+/// The extent of a file that is read for the objects within `span`: the lines within it of an OPL file; or all of an o5
 /// file, and of a small file.
 ///
 /// # Errors
 ///
 /// `Unsorted` at 0 if the lines within `span` would end before they begin, which is so in an unsorted file only; or the
 /// fault of a search for an offset.
-pub(crate) fn part_of<F: ReadAt>(
+pub(crate) fn extent_of<F: ReadAt>(
     alloc: Global,
     file: &F,
     input: usize,
     span: Span,
-) -> Result<FilePart, Fault>
+) -> Result<FileExtent, Fault>
     requires ascends { is_ascending span ≡ true }
-    ensures part { IfOk result (IsPartOf span (F.bytes file.now)) }
+    ensures extent { IfOk result (IsExtentOf span (F.bytes file.now)) }
     ensures refused { IfErr result (IsFileRefusal (F.fails file.now) (F.bytes file.now)) }
     ensures number { IfErr result (IsOfFile input) }
 {
     let size = size_of(file, input)?;
     if is_read_whole(file, input, size)? {
-        return Ok(FilePart {
+        return Ok(FileExtent {
             run: SortedRun::whole(),
             size,
             outside: Outside::Dropped,
@@ -88,7 +88,7 @@ pub(crate) fn part_of<F: ReadAt>(
         lacks_header: false,
         lacks_end: false,
     };
-    Ok(FilePart {
+    Ok(FileExtent {
         run,
         size,
         outside: Outside::Refused,

@@ -1,7 +1,7 @@
 use Rattle.std.proofs.Common.{arith, inl}
 use Rattle.std.proofs.lemmas.Result.{err_from_is_err_and}
-use Rattle.osm_mirror.proofs.run_laws.FilePartLaws.{lines_part, whole_part, cut_refuses, part_falls}
-use Rattle.osm_mirror.proofs.run.shard_part.part_of.Goals as goal
+use Rattle.osm_mirror.proofs.run_laws.FileExtentLaws.{lines_part, whole_extent, cut_refuses, part_falls}
+use Rattle.osm_mirror.proofs.run.shard_extent.extent_of.Goals as goal
 
 pub returns-clause-part : goal.returns-clause-part
 returns-clause-part g c =
@@ -43,5 +43,5 @@ returns-then-end-start-clause-refused g c =
 
 pub returns-then-branch-clause-part : goal.returns-then-branch-clause-part
 returns-then-branch-clause-part g c =
-    whole_part (g.F.ReadAt.bytes c.args.file.now) c.args.span c.in_ok-size.size c.whole.result c.in_ok-size.ensures.size
+    whole_extent (g.F.ReadAt.bytes c.args.file.now) c.args.span c.in_ok-size.size c.whole.result c.in_ok-size.ensures.size
     c.whole.ensures.whole
