@@ -5,8 +5,8 @@ ghost use Rattle.osm_model.specs.Pairwise.{Pairwise};
 ghost use Rattle.osm_files.specs.Recorded.{given_by};
 ghost use Rattle.osm_files.specs.Spell.{spell};
 ghost use Rattle.osm_files.specs.declared.format.Format.TheVariants as format;
-ghost use Rattle.osm_mirror.specs.Merge.{GivesSorted};
-ghost use Rattle.osm_mirror.specs.Run.{union_of};
+ghost use Rattle.osm_mirror.specs.run.Merge.{GivesSorted};
+ghost use Rattle.osm_mirror.specs.run.Job.{union_of};
 
 use osm_files::{Fault, Format, Recorded, VecOut};
 use osm_mirror::run_merge;

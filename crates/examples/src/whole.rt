@@ -5,7 +5,7 @@ ghost use Rattle.osm_model.specs.Pairwise.{Pairwise};
 ghost use Rattle.osm_files.specs.Held.{HoldsSorted};
 ghost use Rattle.osm_files.specs.Spell.{spell};
 ghost use Rattle.osm_files.specs.declared.format.Format.TheVariants as format;
-ghost use Rattle.osm_mirror.specs.Run.{union_of};
+ghost use Rattle.osm_mirror.specs.run.Job.{union_of};
 
 use osm_files::{Fault, Format, SliceIn, VecOut};
 use osm_mirror::run_merge;

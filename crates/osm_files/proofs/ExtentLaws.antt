@@ -7,7 +7,7 @@ use Rattle.std.proofs.lemmas.Bool.{false≢true}
 use Rattle.std.proofs.lemmas.Bool.Decides.{nat_tests}
 use Rattle.osm_files.specs.Input.{InputRest, with_front, whole_input, Gave, GivesOne}
 use Rattle.osm_files.specs.ReadAt.{AreAt, AreLast}
-use Rattle.osm_files.specs.Extent.{GivesExtent, framed}
+use Rattle.osm_files.specs.Extent.{ExtentCanGive, framed}
 
 -- ---- bytes at offsets
 -- the bytes after some bytes of a file
@@ -64,7 +64,7 @@ module _ (Fails : Type 0) (known : Option (List ℕ)) (next end : ℕ) where
 
   -- An extent that gave `front` and can give `later` could give both.
   pub gave_extent : (front : List ℕ) (later : InputRest) → length front ≤ end - next → AreAt known next front
-      → GivesExtent Fails known (next + length front) end later → GivesExtent Fails known next end (with_front front later)
+      → ExtentCanGive Fails known (next + length front) end later → ExtentCanGive Fails known next end (with_front front later)
   gave_extent front later within at gives = record {
     within = omega (arith, within, gives.within, length-append front later.bytes);
     broken = gives.broken ∙ fewer front later within;
@@ -76,13 +76,13 @@ module _ (Fails : Type 0) (known : Option (List ℕ)) (next end : ℕ) where
   }
 
   -- an extent whose bytes were all read gives nothing more
-  pub nothing_left : (c : InputRest) → end ≤ next → GivesExtent Fails known next end c → c ≡ whole_input []
+  pub nothing_left : (c : InputRest) → end ≤ next → ExtentCanGive Fails known next end c → c ≡ whole_input []
   nothing_left c read gives =
       let none : c.bytes ≡ [] = nil_from_length c.bytes (omega (arith, gives.within, read)) in
       let unbroken : c.broken ≡ false = gives.broken ∙ grind (arith, nat_tests) in
       λ i. record { bytes = none i; broken = unbroken i }
 
-  pub gives_nothing : end ≤ next → GivesExtent Fails known next end (whole_input [])
+  pub gives_nothing : end ≤ next → ExtentCanGive Fails known next end (whole_input [])
   gives_nothing read = record {
     within = omega arith;
     broken = grind (arith, nat_tests);
@@ -91,7 +91,7 @@ module _ (Fails : Type 0) (known : Option (List ℕ)) (next end : ℕ) where
   }
 
   -- an extent some bytes of which weren't read doesn't end
-  pub not_ended : next < end → GivesExtent Fails known next end (whole_input []) → ⊥
+  pub not_ended : next < end → ExtentCanGive Fails known next end (whole_input []) → ⊥
   not_ended unread gives = false≢true (gives.broken ∙ grind (arith, nat_tests))
 
 -- ---- extents between bytes before them and bytes after them
@@ -126,8 +126,8 @@ before_read gives before after front rest gave later (given, can, is) = (
 module _ (Fails : Type 0) (known : Option (List ℕ)) (next end : ℕ) (read : end ≤ next) (before : List ℕ) (none : before ≡ []) where
   -- A read of the bytes after an extent whose bytes were all read.
   pub after_read : (after front rest : List ℕ) → Gave {R = List ℕ} (λ xs c. c ≡ whole_input xs) after rest front
-      → (later : InputRest) → GivesOne (GivesExtent Fails known next end) (λ given. later ≡ framed before rest given)
-      → (earlier : InputRest) × GivesOne (GivesExtent Fails known next end) (λ given. earlier ≡ framed before after given)
+      → (later : InputRest) → GivesOne (ExtentCanGive Fails known next end) (λ given. later ≡ framed before rest given)
+      → (earlier : InputRest) × GivesOne (ExtentCanGive Fails known next end) (λ given. earlier ≡ framed before after given)
       × (earlier ≡ with_front front later)
   after_read after front rest gave later (given, can, is) =
       let nothing : given ≡ whole_input [] = nothing_left Fails known next end given read can in (
@@ -138,5 +138,5 @@ module _ (Fails : Type 0) (known : Option (List ℕ)) (next end : ℕ) (read : e
       )
 
   pub after_ended : (after : List ℕ) → whole_input [] ≡ whole_input after
-      → GivesOne (GivesExtent Fails known next end) (λ given. whole_input [] ≡ framed before after given)
+      → GivesOne (ExtentCanGive Fails known next end) (λ given. whole_input [] ≡ framed before after given)
   after_ended after is = (whole_input [], gives_nothing Fails known next end read, is ∙ (λ i. framed (sym none i) after (whole_input [])))

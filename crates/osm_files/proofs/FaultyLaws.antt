@@ -16,6 +16,7 @@ use Rattle.osm_files.specs.Verdict.{length_limit, too_long_verdict, file_units, 
 use Rattle.osm_files.proofs.HoldLaws.{whole_source_is_held, broken_source_ends, long_source_ends}
 use Rattle.osm_files.proofs.StepLaws.{unit_sized, units_step, units_stop}
 use Rattle.osm_files.proofs.StayLaws.{unit_stays}
+use Rattle.osm_files.proofs.HoldLaws.{no_fault as none_of}
 
 abbrev pub Units : Type 0
 Units = SourceRest Placed Verdict
@@ -198,10 +199,6 @@ faulty_or_closed bytes = elim (says bytes) [
   | inl h ↦ inl (h.0, h.1)
   | inr h ↦ inr h
 ]
-
-none_of : (input : ℕ) (v : Option Verdict) → option_map (fault_of input) v ≡ None → v ≡ None
-none_of input None e = refl
-none_of input (Some v) e = cc
 
 never_none : (bytes : List ℕ) (close : Verdict) → verdict_within close bytes ≡ None → ⊥
 never_none bytes close e = elim (faulty_or_closed bytes) [

@@ -43,7 +43,8 @@ use Rattle.osm_files.specs.Units.{content_found, set_found as found_of, unit_aft
 use Rattle.osm_files.specs.Units.{units, start_of}
 use Rattle.osm_files.specs.Verdict.{is_below, is_below_last, sorted_verdict, versions_of}
 use Rattle.osm_files.proofs.UnitLaws.{SplitsAs, splits, drop_after, unit_in_opl, last_in_opl}
-use Rattle.osm_files.proofs.PartLaws.{LengthFound, length_found, content_sized, byte_of, last_in_set, last_in_segment, last_after}
+use Rattle.osm_files.proofs.PartLaws.{byte_of, last_in_set, last_in_segment, last_after}
+use Rattle.osm_files.proofs.SizeLaws.{LengthFound, length_found, content_sized}
 use Rattle.osm_files.proofs.PartLaws.{unit_after}
 use Rattle.osm_files.proofs.PartLaws.{unit_in_segment}
 use Rattle.osm_files.proofs.FileLaws.{header_found, header_tested, last_before_header, unit_before_header, Rises, rises_sorted}

@@ -9,7 +9,7 @@ use Rattle.osm_model.specs.Data.{VersionData}
 use Rattle.osm_files.specs.declared.fault.Fault.{Fault}
 use Rattle.osm_files.specs.declared.reason.Reason.TheVariants.{ReadFault}
 use Rattle.osm_files.specs.declared.extent.Extent.{Extent}
-use Rattle.osm_files.specs.Extent.{GivesExtent, extent_rest}
+use Rattle.osm_files.specs.Extent.{ExtentCanGive, extent_rest}
 use Rattle.osm_files.specs.ExtentGives.{extent_given}
 use Rattle.osm_files.specs.Fault.{IsOfFile}
 use Rattle.osm_files.specs.Input.{InputRest, CanGive}
@@ -135,7 +135,7 @@ first_of Fails input place lines bytes false failing (rest, is, whole) result la
     (first_in Fails input place bytes result later step)
 
 -- an extent within a file gives all of its bytes there, or a front of them and then an error
-extent_can : (Fails : Type 0) (all : List ℕ) (start end : ℕ) (c : InputRest) → GivesExtent Fails (Some all) start end c →
+extent_can : (Fails : Type 0) (all : List ℕ) (start end : ℕ) (c : InputRest) → ExtentCanGive Fails (Some all) start end c →
     CanGive (Some (bytes_between start end all)) c
 extent_can Fails all start end c gives =
     let size = length c.bytes in
@@ -152,7 +152,7 @@ extent_can Fails all start end c gives =
     )
 
 -- if an extent within a file fails, reads of the file may fail
-extent_fails : (Fails : Type 0) (all : List ℕ) (start end : ℕ) (c : InputRest) → GivesExtent Fails (Some all) start end c →
+extent_fails : (Fails : Type 0) (all : List ℕ) (start end : ℕ) (c : InputRest) → ExtentCanGive Fails (Some all) start end c →
     end ≤ length all → c.broken ≡ true → Fails
 extent_fails Fails all start end c gives within broken =
     let short = ltb-true (length c.bytes) (end - start) (sym gives.broken ∙ broken) in
@@ -168,13 +168,13 @@ refusal_input input (Some v) fault is = let e : fault_of input v ≡ fault = cc 
 module _ {R : Type 0} (can : R → InputRest → Type 0) (one : R → InputRest) (possible : (r : R) → can r (one r)) (input : ℕ) where
   -- The result of the first call on the lines from `start` up to `end` is a result for their first version.
   first_given : (Fails : Type 0) (bytes : Option (List ℕ)) (start end : ℕ) (reader : R) → start < 2 ^ 62 →
-      ((c : InputRest) → can reader c → GivesExtent Fails bytes start end c) → (result : Result (Option Placed) Fault)
+      ((c : InputRest) → can reader c → ExtentCanGive Fails bytes start end c) → (result : Result (Option Placed) Fault)
       (q : Position R) → StepsOn can (of_lines input start reader) result q → IsFirstBetween Fails bytes start end (version_read result)
   first_given Fails None start end reader bound gives result q steps = tt
   first_given Fails (Some all) start end reader bound gives result q steps = λ short rises within.
       let y = steps (one q.rest) (possible q.rest) in
       let later : Option (SourceRest Placed Fault) = units_or_failed (with_rest q (one q.rest)) in
-      let extent : GivesExtent Fails (Some all) start end y.0 = gives y.0 y.1 in
+      let extent : ExtentCanGive Fails (Some all) start end y.0 = gives y.0 y.1 in
       let size = extent.within in
       let few : start + length y.0.bytes < 2 ^ 62 = omega (arith, short, within, rises, size) in
       first_of Fails input start (bytes_between start end all) y.0.bytes y.0.broken (extent_fails Fails all start end y.0 extent within)
@@ -191,7 +191,7 @@ module _ {R : Type 0} (can : R → InputRest → Type 0) (one : R → InputRest)
 
 module _ {F : Type 0} (fails : F → Type 0) (bytes : F → Option (List ℕ)) where
   abbrev Given : Extent F → InputRest → Type 0
-  Given e = GivesExtent (fails e.file.now) (bytes e.file.now) e.next e.end
+  Given e = ExtentCanGive (fails e.file.now) (bytes e.file.now) e.next e.end
 
   abbrev one : Extent F → InputRest
   one e = extent_rest e.next e.end (known_bytes (bytes e.file.now))
@@ -209,7 +209,7 @@ module _ {F : Type 0} (fails : F → Type 0) (bytes : F → Option (List ℕ)) w
         → IsFirstBetween (fails file) (bytes file) start end (version_read result)
     first_is file end same from upto bound =
         first_given Given one possible input (fails file) (bytes file) start end reader bound
-        (λ c. subst (λ (t : F × ℕ × ℕ). GivesExtent (fails t.0) (bytes t.0) t.1 t.2 c) (λ i. (same i, from i, upto i))) result q steps
+        (λ c. subst (λ (t : F × ℕ × ℕ). ExtentCanGive (fails t.0) (bytes t.0) t.1 t.2 c) (λ i. (same i, from i, upto i))) result q steps
 
     -- A fault of the first call has the number of the file.
     pub first_number : (fault : Fault) → result ≡ Err fault → IsOfFile input fault

@@ -147,7 +147,7 @@ source_gives_held input bytes held h =
     let refusal : (sorted_source input (all_of bytes)).refusal ≡ None = whole_refusal input bytes ∙ ap (option_map (fault_of input)) none in
     (λ i. record { list = list i; refusal = refusal i })
 
-no_fault : (input : ℕ) (v : Option Verdict) → option_map (fault_of input) v ≡ None → v ≡ None
+pub no_fault : (input : ℕ) (v : Option Verdict) → option_map (fault_of input) v ≡ None → v ≡ None
 no_fault input None e = refl
 no_fault input (Some v) e = absurd (let f : Some (fault_of input v) ≡ None = e in cc)
 

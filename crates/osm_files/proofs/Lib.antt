@@ -1,5 +1,6 @@
 mod Appending
 mod UnitLaws
+mod SizeLaws
 mod PartLaws
 pub mod FileLaws
 mod UnitSteps

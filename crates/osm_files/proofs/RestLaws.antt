@@ -17,7 +17,8 @@ use Rattle.osm_files.specs.SortedRun.{SplitAfterLine, SplitAtReset}
 use Rattle.osm_files.specs.Units.{BeforeHeader, start_of}
 use Rattle.osm_files.proofs.FileLaws.{Header, header_long}
 use Rattle.osm_files.proofs.JoinLaws.{header_starts, bytes_of, after_header, split_ended, split_starts, starts_with_reset}
-use Rattle.osm_files.proofs.PartLaws.{PartsFile, Sized, SameSize, FirstPart, first_part, length_read, same_size}
+use Rattle.osm_files.proofs.PartLaws.{PartsFile, FirstPart, first_part}
+use Rattle.osm_files.proofs.SizeLaws.{Sized, SameSize, length_read, same_size}
 use Rattle.osm_files.proofs.PartLaws.{lone_is_no_end, object_type, reset_only, lone_only, sized_only, skipped_only, object_only}
 
 -- ---- lines

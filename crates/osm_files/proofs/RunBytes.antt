@@ -8,7 +8,7 @@ use Rattle.std.proofs.lemmas.List.{take_all, length-drop}
 use Rattle.osm_files.specs.declared.sorted_run.SortedRun.{SortedRun}
 use Rattle.osm_files.specs.Input.{InputRest}
 use Rattle.osm_files.specs.SortedRun.{bytes_before, bytes_after, run_bytes}
-use Rattle.osm_files.specs.Extent.{GivesExtent, GivesRun}
+use Rattle.osm_files.specs.Extent.{ExtentCanGive, RunCanGive}
 
 -- more bytes than there are
 take_capped : (n m : ℕ) (xs : List ℕ) → n ≡ min m (length xs) → take n xs ≡ take m xs
@@ -18,7 +18,7 @@ take_capped n m xs is = ⊎_elim
     (cases_lt m (length xs))
 
 module _ (Fails : Type 0) (all : List ℕ) (start size : ℕ) (given : InputRest)
-    (gives : GivesExtent Fails (Some all) start (min (start + size) (length all)) given) (unbroken : given.broken ≡ false) where
+    (gives : ExtentCanGive Fails (Some all) start (min (start + size) (length all)) given) (unbroken : given.broken ≡ false) where
   whole_length : length given.bytes ≡ min size (length (drop start all))
   whole_length =
       let end : ℕ = min (start + size) (length all) in
@@ -35,10 +35,10 @@ module _ (Fails : Type 0) (all : List ℕ) (start size : ℕ) (given : InputRest
 
 -- A run that doesn't fail gives the run's bytes.
 pub run_given : (Fails : Type 0) (all : List ℕ) (run : SortedRun) (size : ℕ) (c : InputRest) → length all ≡ size
-    → GivesRun Fails (Some all) run size c → c.broken ≡ false → c.bytes ≡ run_bytes run all
+    → RunCanGive Fails (Some all) run size c → c.broken ≡ false → c.bytes ≡ run_bytes run all
 run_given Fails all run size c length_is (given, gives, is) unbroken =
     let well : given.broken ≡ false = ap (λ d. d.broken) (sym is) ∙ unbroken in
-    let same : GivesExtent Fails (Some all) run.start (min (run.start + run.size) (length all)) given =
+    let same : ExtentCanGive Fails (Some all) run.start (min (run.start + run.size) (length all)) given =
     rw length_is gives in
     let extent : given.bytes ≡ take run.size (drop run.start all) = extent_is Fails all run.start run.size given same well in
     ap (λ d. d.bytes) is ∙ (λ i. bytes_before run ++ (extent i ++ cond (well i) [] (bytes_after run)))

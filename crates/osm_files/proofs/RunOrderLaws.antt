@@ -10,7 +10,7 @@ use Rattle.osm_files.specs.declared.fault.Fault.{Fault}
 use Rattle.osm_files.specs.declared.reason.Reason.{Reason}
 use Rattle.osm_files.specs.declared.reason.Reason.TheVariants.{Memory, Unsorted, ReadFault}
 use Rattle.osm_files.specs.declared.sorted_run.SortedRun.{SortedRun}
-use Rattle.osm_files.specs.Extent.{GivesRun}
+use Rattle.osm_files.specs.Extent.{RunCanGive}
 use Rattle.osm_files.specs.Fault.{fault_at}
 use Rattle.osm_files.specs.FileRuns.{GivesSortedFile, IsSortedRun, IfWhole, IsAccepted, IsReadFailure, IsFirstUnsortedIn, IsRefusalOf}
 use Rattle.osm_files.specs.Groups.{sorted_source}
@@ -43,7 +43,7 @@ part_front front rest size fits =
 
 -- What a run gives before it fails is the front of its bytes.
 pub run_front : (Fails : Type 0) (all : List ℕ) (run : SortedRun) (size : ℕ) (bytes : List ℕ)
-    → GivesRun Fails (Some all) run size (broken_after bytes) → IsFront bytes (run_bytes run all)
+    → RunCanGive Fails (Some all) run size (broken_after bytes) → IsFront bytes (run_bytes run all)
 run_front Fails all run size bytes (given, gives, is) =
     let before : List ℕ = bytes_before run in
     let after : List ℕ = bytes_after run in
@@ -63,7 +63,7 @@ run_front Fails all run size bytes (given, gives, is) =
     )
 
 -- ---- the verdict on order
-mapped_fault : (input : ℕ) (v : Option Verdict) (fault : Fault) → option_map (fault_of input) v ≡ Some fault
+pub mapped_fault : (input : ℕ) (v : Option Verdict) (fault : Fault) → option_map (fault_of input) v ≡ Some fault
     → (w : Verdict) × (v ≡ Some w) × (fault ≡ fault_of input w)
 mapped_fault input None fault e = absurd (let f : None ≡ Some fault = e in cc)
 mapped_fault input (Some w) fault e = (w, refl, (let f : fault_of input w ≡ fault = cc in sym f))
@@ -97,7 +97,7 @@ Refuses Fails input bytes fault =
 
 -- Reads of a file fail if a run of it gives fewer bytes than it has.
 pub broken_fails : (Fails : Type 0) (all : List ℕ) (run : SortedRun) (size : ℕ) (c : InputRest) → length all ≡ size
-    → GivesRun Fails (Some all) run size c → c.broken ≡ true → Fails
+    → RunCanGive Fails (Some all) run size c → c.broken ≡ true → Fails
 broken_fails Fails all run size c whole (given, gives, is) broken =
     let part : ℕ = min (run.start + run.size) size - run.start in
     let short = ltb-true (length given.bytes) part (sym gives.broken ∙ ap (λ c. c.broken) (sym is) ∙ broken) in
@@ -133,7 +133,7 @@ module _ (Fails : Type 0) (fails : Fails) (input : ℕ) (bytes more : List ℕ) 
       (cases_lt (length bytes) (2 ^ 62))
 
 given_refuses : (Fails : Type 0) (all : List ℕ) (run : SortedRun) (size : ℕ) (input : ℕ) (fault : Fault) (bytes : List ℕ) (broken : Bool)
-    → length all ≡ size → GivesRun Fails (Some all) run size (record { bytes = bytes; broken = broken })
+    → length all ≡ size → RunCanGive Fails (Some all) run size (record { bytes = bytes; broken = broken })
     → (sorted_source input (record { bytes = bytes; broken = broken })).refusal ≡ Some fault → Refuses Fails input (run_bytes run all) fault
 given_refuses Fails all run size input fault bytes true whole gives e =
     let front = run_front Fails all run size bytes gives in
@@ -146,7 +146,7 @@ given_refuses Fails all run size input fault bytes false whole gives e =
 
 -- A run whose source is refused has the refusal as its verdict on order, or a read failed.
 pub run_refuses : (Fails : Type 0) (all : List ℕ) (run : SortedRun) (size : ℕ) (input : ℕ) (fault : Fault) → length all ≡ size
-    → GivesOne (GivesRun Fails (Some all) run size) (λ c. StopsOpening input c fault) → Refuses Fails input (run_bytes run all) fault
+    → GivesOne (RunCanGive Fails (Some all) run size) (λ c. StopsOpening input c fault) → Refuses Fails input (run_bytes run all) fault
 run_refuses Fails all run size input fault whole (c, gives, inl memory) = inl (inl memory)
 run_refuses Fails all run size input fault whole (c, gives, inr e) =
     given_refuses Fails all run size input fault c.bytes c.broken whole gives e
@@ -213,13 +213,13 @@ module _ (Fails : Type 0) (all : List ℕ) (run : SortedRun) (input offset : ℕ
       inr (verdict_refuses (run_bytes run all) v e (λ unsorted. other (ap (λ f. f.reason) same ∙ unsorted)))
 
 sorted_run : (Fails : Type 0) (all : List ℕ) (run : SortedRun) (size : ℕ) → length all ≡ size
-    → GivesOne (GivesRun Fails (Some all) run size) GivesSortedFile → IsSortedRun all run
+    → GivesOne (RunCanGive Fails (Some all) run size) GivesSortedFile → IsSortedRun all run
 sorted_run Fails all run size whole (c, gives, (unbroken, (held, holds))) =
     (held, subst (λ bytes. HoldsSorted bytes held) (run_given Fails all run size c whole gives unbroken) holds)
 
 module _ (Fails : Type 0) (run : SortedRun) (size : ℕ) where
   abbrev Run : Option (List ℕ) → (InputRest → Type 0) → Type 0
-  Run known = GivesOne (GivesRun Fails known run size)
+  Run known = GivesOne (RunCanGive Fails known run size)
 
   -- A run whose input gives a sorted file is a sorted file.
   pub read_whole : (known : Option (List ℕ)) → Run known GivesSortedFile → IfWhole known size (λ all. IsSortedRun all run)
@@ -273,7 +273,7 @@ module _ (Fails : Type 0) (all : List ℕ) (run : SortedRun) (size input : ℕ) 
       short)
       (broken_inputs bytes)
 
-  given_units : (bytes : List ℕ) (broken : Bool) → GivesRun Fails (Some all) run size (record { bytes = bytes; broken = broken })
+  given_units : (bytes : List ℕ) (broken : Bool) → RunCanGive Fails (Some all) run size (record { bytes = bytes; broken = broken })
       → (with_input input (units_from None 0 (record { bytes = bytes; broken = broken }))).refusal ≡ Some fault
       → IsRefusalOf Fails (run_bytes run all) fault
   given_units bytes true gives e =
@@ -288,6 +288,6 @@ module _ (Fails : Type 0) (all : List ℕ) (run : SortedRun) (size input : ℕ) 
 
 -- A run whose units are refused is no file, or a read failed.
 pub units_refuse : (Fails : Type 0) (all : List ℕ) (run : SortedRun) (size input : ℕ) (fault : Fault) (c : InputRest) → length all ≡ size
-    → GivesRun Fails (Some all) run size c → (with_input input (units_from None 0 c)).refusal ≡ Some fault
+    → RunCanGive Fails (Some all) run size c → (with_input input (units_from None 0 c)).refusal ≡ Some fault
     → IsRefusalOf Fails (run_bytes run all) fault
 units_refuse Fails all run size input fault c whole = given_units Fails all run size input fault whole c.bytes c.broken

@@ -194,7 +194,7 @@ or_turned true false = refl
 or_turned false true = refl
 or_turned false false = refl
 
-or_grouped : (a b c : Bool) → ((a || b) || c) ≡ (a || (b || c))
+pub or_grouped : (a b c : Bool) → ((a || b) || c) ≡ (a || (b || c))
 or_grouped true b c = refl
 or_grouped false b c = refl
 
@@ -208,7 +208,7 @@ holds_one s q = contains s q
 in_both : (s t : VersionSet) (q : VersionData) → contains (union s t) q ≡ (holds_one s q || holds_one t q)
 in_both s t q = contains-union version_cmp_total s t q
 
-equal_sets : (s t : VersionSet) → ((q : VersionData) → contains s q ≡ contains t q) → s ≡ t
+pub equal_sets : (s t : VersionSet) → ((q : VersionData) → contains s q ≡ contains t q) → s ≡ t
 equal_sets s t h = same_set version_cmp_total version_cmp-IsAntisymmetric s t h
 
 -- The file of a union doesn't depend on the order of the sets.
@@ -251,7 +251,7 @@ contains_itself s k d within =
 pub are_versions : (s : VersionSet) → ((q : VersionData) → contains s q ≡ true → IsVersion q) → AreVersions s
 are_versions s members = λ k d within. members (get_or (to_list s) k d) (contains_itself s k d within)
 
-either : (a b : Bool) → (a || b) ≡ true → (a ≡ true) ⊎ (b ≡ true)
+pub either : (a b : Bool) → (a || b) ≡ true → (a ≡ true) ⊎ (b ≡ true)
 either true b h = inl refl
 either false b h = inr h
 

@@ -19,7 +19,7 @@ use Rattle.osm_files.specs.Units.{FileStateData, InOpl, BeforeHeader, InSegment,
 use Rattle.osm_files.specs.Units.{header_unit}
 use Rattle.osm_files.specs.Units.{is_header, content_found, is_last, is_ended, length_at, sized_unit, segment_unit, unit_after_end, unit_at}
 use Rattle.osm_files.proofs.UnitLaws.{some_is_not_none}
-use Rattle.osm_files.proofs.PartLaws.{length_found}
+use Rattle.osm_files.proofs.SizeLaws.{length_found}
 
 abbrev Split : Type 0
 Split = List ℕ × Option (List ℕ)

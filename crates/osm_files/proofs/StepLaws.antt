@@ -16,7 +16,7 @@ use Rattle.osm_files.specs.Units.{header_unit, is_header, content_found, length_
 use Rattle.osm_files.specs.Units.{last_at}
 use Rattle.osm_files.specs.Units.{found_then, final_units, unit_then, units_within, units}
 use Rattle.osm_files.proofs.UnitLaws.{splits, SplitsAs, some_is_not_none}
-use Rattle.osm_files.proofs.PartLaws.{length_found}
+use Rattle.osm_files.proofs.SizeLaws.{length_found}
 
 -- a unit has at least one byte, and no more than there are
 pub record IsSized (u : FileUnit) (bytes : List ℕ) : Type 0 where

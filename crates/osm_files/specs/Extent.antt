@@ -9,7 +9,7 @@ use Rattle.osm_files.specs.SortedRun.{bytes_before, bytes_after}
 -- What an extent of a file from `next` up to `end` can give: the bytes that the file has there, and then the end of
 -- input. If the file fails or ends earlier, it gives fewer bytes and then an error. So it never ends early without an
 -- error. `Fails` holds if reads of the file may fail.
-pub record GivesExtent (Fails : Type 0) (known : Option (List ℕ)) (next end : ℕ) (c : InputRest) : Type 0 where
+pub record ExtentCanGive (Fails : Type 0) (known : Option (List ℕ)) (next end : ℕ) (c : InputRest) : Type 0 where
   pub within : length c.bytes ≤ end - next
   pub broken : c.broken ≡ nat_lt (length c.bytes) (end - next)
   pub bytes : AreAt known next c.bytes
@@ -29,6 +29,6 @@ framed before after c =
 
 -- what a run of a file of this size can give: its extent of the file, between the bytes that the run has before it and
 -- after it
-abbrev pub GivesRun : Type 0 → Option (List ℕ) → SortedRun → ℕ → InputRest → Type 0
-GivesRun Fails known run size c = GivesOne (GivesExtent Fails known run.start (min (run.start + run.size) size))
+abbrev pub RunCanGive : Type 0 → Option (List ℕ) → SortedRun → ℕ → InputRest → Type 0
+RunCanGive Fails known run size c = GivesOne (ExtentCanGive Fails known run.start (min (run.start + run.size) size))
     (λ given. c ≡ framed (bytes_before run) (bytes_after run) given)

@@ -3,7 +3,7 @@ use Rattle.std.proofs.Common.{inr, ℕ, ◌-◌, ◌<◌, List, length, take, dr
 use Rattle.std.proofs.Common.{sym}
 use Rattle.std.proofs.lemmas.List.{take-append-drop, take_all, length-take}
 use Rattle.osm_files.specs.ReadAt.{AreAt, AreLast, known_bytes}
-use Rattle.osm_files.specs.Extent.{GivesExtent, extent_rest}
+use Rattle.osm_files.specs.Extent.{ExtentCanGive, extent_rest}
 
 at_known : (known : Option (List ℕ)) (next n : ℕ) → AreAt known next (take n (drop next (known_bytes known)))
 at_known None next n = tt
@@ -15,7 +15,7 @@ last_known None next n few = tt
 last_known (Some all) next n few = sym (take_all n (drop next all) (omega (arith, length-take n (drop next all), few)))
 
 pub extent_given : (Fails : Type 0) (known : Option (List ℕ)) (next end : ℕ)
-    → GivesExtent Fails known next end (extent_rest next end (known_bytes known))
+    → ExtentCanGive Fails known next end (extent_rest next end (known_bytes known))
 extent_given Fails known next end = record {
   within = omega (arith, length-take (end - next) (drop next (known_bytes known)));
   broken = refl;

@@ -49,6 +49,6 @@ pub can_give_all : (left : Option (List ℕ)) → CanGive left (whole_left left)
 can_give_all None = tt
 can_give_all (Some left) = ([], sym (append-nil left), λ _. refl)
 
--- an input can give something with this property
-abbrev pub GivesOne : (InputRest → Type 0) → (InputRest → Type 0) → Type 0
-GivesOne can P = (c : InputRest) × can c × P c
+-- an input or a source can give something with this property
+abbrev pub GivesOne : {C : Type 0} → (C → Type 0) → (C → Type 0) → Type 0
+GivesOne {C = C} can P = (c : C) × can c × P c

@@ -2,7 +2,7 @@
 ghost use Rattle.std.specs.Prelude.{◌≡◌, ◌↔◌, nat_le};
 ghost use Rattle.osm_files.specs.Input.{InputRest, GivesOne};
 ghost use Rattle.osm_files.specs.ReadAt.{known_bytes};
-ghost use Rattle.osm_files.specs.Extent.{GivesExtent, GivesRun, extent_rest, framed};
+ghost use Rattle.osm_files.specs.Extent.{ExtentCanGive, RunCanGive, extent_rest, framed};
 
 use crate::input::{Broken, Input, SliceIn};
 use crate::read_at::ReadAt;
@@ -45,7 +45,7 @@ impl<'a, F: ReadAt> Extent<'a, F> {
 impl<'a, F: ReadAt> Input for Extent<'a, F> {
     ghost use Rattle.osm_files.specs.ExtentGives.{extent_given};
 
-    ghost can_give = { λ e c. GivesExtent (F.fails e.file.now) (F.bytes e.file.now) e.next e.end c };
+    ghost can_give = { λ e c. ExtentCanGive (F.fails e.file.now) (F.bytes e.file.now) e.next e.end c };
 
     ghost one = { λ e. extent_rest e.next e.end (known_bytes (F.bytes e.file.now)) };
 
@@ -98,7 +98,7 @@ impl<'a, F: ReadAt> FramedExtent<'a, F> {
     /// The bytes of `run`, a run of `file`, which has `size` bytes. It fails where the file ends earlier.
     pub fn of_run(file: &'a F, size: u64, run: SortedRun) -> FramedExtent<'a, F>
         ensures { (c : InputRest) → ⟦<FramedExtent<'a, F> as Input>⟧.can_give result c
-            ↔ GivesRun (F.fails file.now) (F.bytes file.now) run size c }
+            ↔ RunCanGive (F.fails file.now) (F.bytes file.now) run size c }
     {
         let end = run.start.saturating_add(run.size).min(size);
         FramedExtent::new(
@@ -114,7 +114,7 @@ impl<'a, F: ReadAt> Input for FramedExtent<'a, F> {
     ghost use Rattle.osm_files.specs.ExtentGives.{extent_given};
 
     ghost can_give = { λ s c.
-        GivesOne (GivesExtent (F.fails s.extent.file.now) (F.bytes s.extent.file.now) s.extent.next s.extent.end)
+        GivesOne (ExtentCanGive (F.fails s.extent.file.now) (F.bytes s.extent.file.now) s.extent.next s.extent.end)
         (λ given. c ≡ framed s.before s.after given) };
 
     ghost one = { λ s. framed s.before s.after

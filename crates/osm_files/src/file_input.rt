@@ -13,9 +13,9 @@ pub enum FileInput<'a, F: ReadAt, R> {
 }
 
 impl<'a, F: ReadAt, R: Input> Input for FileInput<'a, F, R> {
-    ghost use Rattle.osm_files.specs.FileInput.{FileInputGives, one_of_input, input_gives_one};
+    ghost use Rattle.osm_files.specs.FileInput.{FileInputCanGive, one_of_input, input_gives_one};
 
-    ghost can_give = { FileInputGives F.fails F.bytes R.can_give };
+    ghost can_give = { FileInputCanGive F.fails F.bytes R.can_give };
 
     ghost one = { one_of_input F.fails F.bytes R.can_give R.one };
 

@@ -18,9 +18,9 @@ use std::alloc::Global;
 /// The contents of a file.
 #[derive(Drop)]
 pub struct Loaded {
-    /// The versions.
+    /// The set of the file's versions.
     pub history: History,
-    /// The format.
+    /// The format, which the first bytes of the file show.
     pub format: Format,
     /// Whether it is sorted: no version's key is below that of the version before it.
     pub sorted: bool,

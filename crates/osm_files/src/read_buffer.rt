@@ -68,7 +68,7 @@ impl ReadBuffer {
         self.chunk = chunk.clamp(1, MAX_CHUNK);
     }
 
-    /// The bytes held.
+    /// The bytes that were read and are in no unit yet.
     pub(crate) fn as_slice(&self) -> &[u8]
         ensures { result.now ≡ self.now }
     {

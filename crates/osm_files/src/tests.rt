@@ -29,7 +29,7 @@ fn is_same(alloc: Global, file: &[u8], step: usize, loaded: &str, given: &str) -
         fails: false,
     };
     let in_pieces = loaded_text(alloc, 0, FromRead::new(pieces));
-    let given_in_pieces = given_text(alloc, 0, FromRead::new(again));
+    let given_in_pieces = given_text(alloc, FileSource::new(alloc, 0, FromRead::new(again)));
     in_pieces.as_str() == loaded && given_in_pieces.as_str() == given
 }
 
@@ -48,7 +48,7 @@ fn push_abridged(text: &mut String, whole: &str) {
 /// The result of loading a file, and each number of bytes in a read with which the result differs.
 fn text_in_pieces(alloc: Global, file: &[u8]) -> String {
     let loaded = loaded_text(alloc, 0, SliceIn::new(file));
-    let given = given_text(alloc, 0, SliceIn::new(file));
+    let given = given_text(alloc, FileSource::new(alloc, 0, SliceIn::new(file)));
     let mut text = String::new(alloc);
     push_abridged(&mut text, loaded.as_str());
     for step in 1..4usize {
@@ -347,7 +347,7 @@ fn broken_text(alloc: Global) -> String {
         read: &read,
         fails: true,
     };
-    given_text(alloc, 0, FromRead::new(pieces))
+    given_text(alloc, FileSource::new(alloc, 0, FromRead::new(pieces)))
 }
 
 #[test]

@@ -72,18 +72,6 @@ pub(crate) fn push_given<S: Source>(alloc: Global, text: &mut String, source: &m
     push_next(alloc, text, source);
 }
 
-/// Appends the versions of a new source of a file, or the fault of opening it.
-pub(crate) fn push_source<R: Input + Drop>(
-    alloc: Global,
-    text: &mut String,
-    opened: Result<FileSource<R>, Fault>,
-) {
-    match opened {
-        Err(fault) => push_fault(text, fault),
-        Ok(mut source) => push_given(alloc, text, &mut source),
-    }
-}
-
 /// The result of loading the input `input`.
 pub(crate) fn loaded_text<R: Input + Drop>(alloc: Global, input: usize, reader: R) -> String {
     let mut text = String::new(alloc);
@@ -91,9 +79,15 @@ pub(crate) fn loaded_text<R: Input + Drop>(alloc: Global, input: usize, reader: 
     text
 }
 
-/// The versions of a source of the input `input`.
-pub(crate) fn given_text<R: Input + Drop>(alloc: Global, input: usize, reader: R) -> String {
+/// The versions of a new source of a file, or the fault of opening it.
+pub(crate) fn given_text<R: Input + Drop>(
+    alloc: Global,
+    opened: Result<FileSource<R>, Fault>,
+) -> String {
     let mut text = String::new(alloc);
-    push_source(alloc, &mut text, FileSource::new(alloc, input, reader));
+    match opened {
+        Err(fault) => push_fault(&mut text, fault),
+        Ok(mut source) => push_given(alloc, &mut text, &mut source),
+    }
     text
 }

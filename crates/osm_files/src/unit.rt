@@ -225,9 +225,9 @@ impl FileState {
         ensures { FindsLast (spec.last_at (state_data_of self.now) bytes.now) result }
     {
         match self {
-            FileState::Lines(_) => read_last_line(alloc, bytes),
+            FileState::Lines(_) => Ok(read_line(alloc, bytes)?),
             FileState::Header => Err(Reason::BadHeader),
-            FileState::DataSets(_) => read_last_set(bytes),
+            FileState::DataSets(_) => Err(truncation_reason(bytes)),
             FileState::End => Ok(None),
         }
     }
@@ -255,7 +255,7 @@ impl FileState {
     {
         match self {
             FileState::Lines(lines) => read_line_unit(lines, bytes, searched),
-            FileState::Header => self.read_start(alloc, bytes),
+            FileState::Header => Ok(self.read_header(alloc, bytes)?),
             FileState::DataSets(decoder) => {
                 if ends_at(bytes) {
                     self.end();
@@ -277,20 +277,6 @@ impl FileState {
         ensures good { IsGoodState self.new }
     {
         *self = FileState::End;
-    }
-
-    /// Reads the header at the front of `bytes`.
-    ///
-    /// This is a function of its own only for the optimizer: it takes the result apart, so no memory for the result is
-    /// cleared before each data set.
-    #[inline(always)]
-    fn read_start(&mut self, alloc: Global, bytes: &[u8]) -> Result<Option<ReadUnit>, Reason>
-        ensures found { Finds (spec.header_unit bytes.now) result (state_data_of self.new) }
-        ensures good { IfOk result (λ unit. unit ≡ None ⊎ IsGoodState self.new) }
-        ensures unmoved { result ≡ Ok None → self.new ≡ self.old }
-    {
-        let unit = self.read_header(alloc, bytes)?;
-        Ok(unit)
     }
 
     /// Reads the header at the front of `bytes`, if all its bytes are there, and moves to the stage of the data sets.
@@ -316,20 +302,6 @@ fn ends_at(bytes: &[u8]) -> bool
         None => false,
         Some(byte) => *byte == FILE_END,
     }
-}
-
-/// The version of the last line.
-fn read_last_line(alloc: Global, bytes: &[u8]) -> Result<Option<Version>, Reason>
-    ensures { FindsLast (spec.line_found (reading_line bytes.now)) result }
-{
-    Ok(read_line(alloc, bytes)?)
-}
-
-/// Refuses a file that ends among its data sets with `bytes`.
-fn read_last_set(bytes: &[u8]) -> Result<Option<Version>, Reason>
-    ensures { result ≡ Err (spec.cut_reason bytes.now) }
-{
-    Err(truncation_reason(bytes))
 }
 
 /// The reason why a file can't end among its data sets with `bytes`.

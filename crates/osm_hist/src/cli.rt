@@ -34,35 +34,41 @@ pub trait Host: Files<File = File> + Clock + AllocGlobal {}
 
 impl<R: Files<File = File> + Clock + AllocGlobal> Host for R {}
 
-/// The arguments of a run without arguments: standard input is merged to standard output.
+/// The arguments of a job without arguments: standard input is merged to standard output.
 const NO_ARGS: [&str; 4] = ["merge", "--output", STANDARD, STANDARD];
 
 /// Runs one command and returns the exit status.
 ///
-/// `rt` is the runtime; the files are in its folder. `words` are the arguments after the program's name. `input` is
+/// `rt` is the runtime; the files are in its folder. `arguments` are the arguments after the program's name. `input` is
 /// standard input, `out` is standard output, and `err` is standard error. With no arguments, `input` is merged to
 /// `out`. Help, the version, the lines of a check and the replies to a plan's events go to `out`, too. The reports
-/// during a run and the line of a refusal go to `err`.
+/// during a job and the line of a refusal go to `err`.
 ///
 /// The status is 0 for success and help. It is 1 if a file, memory or `out` fails. It is 2 for a usage error: a mistake
 /// in the arguments, in a list of files or in a plan.
-pub fn run_words<S, I, O, E>(rt: &impl Host, words: &[S], input: I, mut out: O, mut err: E) -> u8
+pub fn run_words<S, I, O, E>(
+    rt: &impl Host,
+    arguments: &[S],
+    input: I,
+    mut out: O,
+    mut err: E,
+) -> u8
 where
     S: AsStr,
     I: Read + Drop,
     O: Write + IsTerminal + Drop,
     E: Write + IsTerminal + Drop,
 {
-    let parsed = if words.is_empty() {
+    let parsed = if arguments.is_empty() {
         parse(rt.alloc(), NO_ARGS.as_slice())
     } else {
-        parse(rt.alloc(), words)
+        parse(rt.alloc(), arguments)
     };
     match parsed {
-        Ok(args) => match args.subcommand() {
-            Some((name, args)) => run_command(rt, name, args, input, &mut out, &mut err),
+        Ok(matches) => match matches.subcommand() {
+            Some((name, matches)) => run_command(rt, name, matches, input, &mut out, &mut err),
             None => {
-                let printed = print_explanation(rt.alloc(), args.get_str("explain"), &mut out);
+                let printed = print_explanation(rt.alloc(), matches.get_str("explain"), &mut out);
                 status_of(rt, printed, &mut err)
             }
         },
@@ -70,42 +76,42 @@ where
             status_of(rt, print_help(rt.alloc(), &help, &mut out), &mut err)
         }
         Err(mistake) => {
-            let shown = escaped_mistake(rt.alloc(), words).filter(|_| err.is_terminal());
-            let mistake = Refusal::of_args(shown.unwrap_or(mistake));
+            let shown = escaped_mistake(rt.alloc(), arguments).filter(|_| err.is_terminal());
+            let mistake = Refusal::of_arguments(shown.unwrap_or(mistake));
             hint::report(rt, &mistake, &mut err, false)
         }
     }
 }
 
 /// Parses arguments. The request for help or for the version is an error, too.
-fn parse<'a, S: AsStr>(alloc: Global, args: &'a [S]) -> Result<ArgMatches<'a>, Error> {
-    command(alloc)?.try_get_matches_from(args)
+fn parse<'a, S: AsStr>(alloc: Global, arguments: &'a [S]) -> Result<ArgMatches<'a>, Error> {
+    command(alloc)?.try_get_matches_from(arguments)
 }
 
-/// The mistake in the arguments `args`, in which control characters are escaped.
-fn escaped_mistake<S: AsStr>(alloc: Global, args: &[S]) -> Option<Error> {
+/// The mistake in `arguments`, in which control characters are escaped.
+fn escaped_mistake<S: AsStr>(alloc: Global, arguments: &[S]) -> Option<Error> {
     let mut shown = Vec::new(alloc);
-    for arg in args {
+    for arg in arguments {
         let text = format!(in alloc; "{}", Escaped(arg.as_str())).ok()?;
         shown.push(text).ok()?;
     }
     parse(alloc, shown.as_slice()).err()
 }
 
-/// Runs the command `name` with the arguments `args`, reports its outcome and returns the exit status.
+/// Runs the command `name` with the arguments in `matches`, reports its outcome and returns the exit status.
 fn run_command<I: Read + Drop, O: Write + IsTerminal, E: Write + IsTerminal>(
     rt: &impl Host,
     name: &str,
-    args: &ArgMatches<'_>,
+    matches: &ArgMatches<'_>,
     input: I,
     out: &mut O,
     err: &mut E,
 ) -> u8 {
-    let hints = args.get_flag("hints");
+    let hints = matches.get_flag("hints");
     if name == "plan" {
-        return run_plan(rt, args, out, err);
+        return run_plan(rt, matches, out, err);
     }
-    match Request::of_matches(rt.alloc(), name, args) {
+    match Request::of_matches(rt.alloc(), name, matches) {
         Ok(request) => run_request(rt, request, input, out, err, hints),
         Err(refusal) => hint::report(rt, &refusal, err, hints),
     }
@@ -136,7 +142,7 @@ fn run_request<I: Read + Drop, O: Write + IsTerminal, E: Write + IsTerminal>(
         Ok(has_more_o5) => {
             let more = format!(in rt.alloc(); "{}", hint::MORE_O5).ok();
             hint::advise(more.filter(|_| has_more_o5), err, hints);
-            let hint = hint::after_output(rt.alloc(), run.output, run.run.format);
+            let hint = hint::after_output(rt.alloc(), run.output, run.job.format);
             hint::advise(hint, err, hints);
             0
         }
@@ -177,6 +183,3 @@ fn print<'a, O: Write>(out: &mut O, text: &String) -> Result<(), Refusal<'a>> {
     let printed = out.write_all(text.as_bytes()).and_then(|()| out.flush());
     printed.map_err(|_| Refusal::StandardOutput)
 }
-
-#[cfg(test)]
-mod tests;

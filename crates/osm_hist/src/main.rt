@@ -25,7 +25,7 @@ const ROOT: &str = "/";
 
 fn main(rt: HostRuntime) -> ExitCode {
     let status = match occupy_standard(&rt) {
-        Ok(_handles) => run_args(&rt),
+        Ok(_handles) => run_arguments(&rt),
         Err(error) => Refusal::unread(ROOT, &error).report(&mut rt.stderr()),
     };
     ExitCode::from(status)
@@ -48,29 +48,35 @@ fn occupy_standard(rt: &HostRuntime) -> io::Result<[Option<File>; 4]> {
 }
 
 /// Runs the command of the arguments and returns the exit status.
-fn run_args(rt: &HostRuntime) -> u8 {
-    let args = match read_args(rt) {
-        Ok(args) => args,
+fn run_arguments(rt: &HostRuntime) -> u8 {
+    let arguments = match read_arguments(rt) {
+        Ok(arguments) => arguments,
         Err(error) => return refuse_args(rt, &error).report(&mut rt.stderr()),
     };
-    if args.is_empty() && rt.stdin().is_terminal() && rt.stderr().is_terminal() {
+    if arguments.is_empty() && rt.stdin().is_terminal() && rt.stderr().is_terminal() {
         // If standard error fails, nothing can report it.
         let _ = eprintln!(rt;
             "osm_hist: waiting for OPL on standard input; osm_hist --help shows the commands"
         );
     }
-    run_words(rt, args.as_slice(), rt.stdin(), rt.stdout(), rt.stderr())
+    run_words(
+        rt,
+        arguments.as_slice(),
+        rt.stdin(),
+        rt.stdout(),
+        rt.stderr(),
+    )
 }
 
 /// The arguments after the program's name.
-fn read_args(rt: &HostRuntime) -> io::Result<Vec<String>> {
+fn read_arguments(rt: &HostRuntime) -> io::Result<Vec<String>> {
     Ok(env::args(rt)?.skip(1).collect(rt.alloc())?)
 }
 
 /// The refusal if the arguments aren't available: one isn't UTF-8, or the program is out of memory.
 fn refuse_args(rt: &HostRuntime, error: &io::Error) -> Refusal<'static> {
     match faulty_argument(rt) {
-        Ok(arg) if error.kind() != io::ErrorKind::OutOfMemory => Refusal::WordsNotUtf8(arg),
+        Ok(arg) if error.kind() != io::ErrorKind::OutOfMemory => Refusal::ArgumentsNotUtf8(arg),
         _ => Refusal::Memory(AllocError),
     }
 }

@@ -15,6 +15,7 @@ use Rattle.osm_merge.specs.Selected.{selection_of}
 use Rattle.osm_merge.specs.Pass.{passes, keeps, stays, singleton_if, versions_that_stay, settled_versions}
 use Rattle.osm_merge.proofs.PassLaws.{kept_end, settled_next}
 use Rattle.osm_merge.proofs.SelectedLaws.{passing_is, pass_of_set}
+use Rattle.osm_files.proofs.HoldLaws.{set_listed}
 
 -- those of the first `place` versions of a list that pass
 abbrev pub met_of : Selection → List VersionData → ℕ → List VersionData
@@ -26,15 +27,15 @@ pub record HoldsAt (list : List VersionData) (place : ℕ) (met : List VersionDa
   pub front : List VersionData
   pub ends : (d : VersionData) → met ≡ front ++ get_or list place d ∷ []
 
-abbrev pub IsHeld : List VersionData → Option ℕ → List VersionData → Type 0
-IsHeld list None met = met ≡ []
-IsHeld list (Some place) met = HoldsAt list place met
+abbrev pub IsPending : List VersionData → Option ℕ → List VersionData → Type 0
+IsPending list None met = met ≡ []
+IsPending list (Some place) met = HoldsAt list place met
 
 -- The first `place` versions were read; the last of them that passes is pending, and the others that are decided to
 -- stay were chosen.
-pub record IsChoosing (selection : Selection) (list : List VersionData) (place : ℕ) (held : Option ℕ)
+pub record IsChoosing (selection : Selection) (list : List VersionData) (place : ℕ) (pending : Option ℕ)
     (chosen : List VersionData) : Type 0 where
-  pub held_is : IsHeld list held (met_of selection list place)
+  pub pending_is : IsPending list pending (met_of selection list place)
   pub chosen_is : chosen ≡ settled_versions (keeps selection) (met_of selection list place)
 
 -- the step for the version at `place`
@@ -59,13 +60,13 @@ module _ (selection : Selection) (list : List VersionData) (place : ℕ) (w : Ve
   }
 
   -- A version that doesn't pass changes nothing.
-  pub choose_skip : (held held2 : Option ℕ) (chosen chosen2 : List VersionData) → IsChoosing selection list place held chosen
+  pub choose_skip : (pending pending2 : Option ℕ) (chosen chosen2 : List VersionData) → IsChoosing selection list place pending chosen
       → passes selection w ≡ false →
-      held2 ≡ held → chosen2 ≡ chosen → IsChoosing selection list (place + 1) held2 chosen2
-  choose_skip held held2 chosen chosen2 i out same_held same_chosen = record {
-    held_is =
-        subst (λ (h : Option ℕ). IsHeld list h (met_of selection list (place + 1))) (sym same_held)
-        (subst (λ (met : List VersionData). IsHeld list held met) (sym (met_skip out)) i.held_is);
+      pending2 ≡ pending → chosen2 ≡ chosen → IsChoosing selection list (place + 1) pending2 chosen2
+  choose_skip pending pending2 chosen chosen2 i out same_pending same_chosen = record {
+    pending_is =
+        subst (λ (h : Option ℕ). IsPending list h (met_of selection list (place + 1))) (sym same_pending)
+        (subst (λ (met : List VersionData). IsPending list pending met) (sym (met_skip out)) i.pending_is);
     chosen_is = same_chosen ∙ i.chosen_is ∙ ap (settled_versions (keeps selection)) (sym (met_skip out));
   }
 
@@ -73,10 +74,10 @@ module _ (selection : Selection) (list : List VersionData) (place : ℕ) (w : Ve
   first_passes : (chosen : List VersionData) → IsChoosing selection list place None chosen → passes selection w ≡ true
       → IsChoosing selection list (place + 1) (Some place) chosen
   first_passes chosen i pass = record {
-    held_is = held_now pass;
+    pending_is = held_now pass;
     chosen_is =
-        i.chosen_is ∙ ap (settled_versions (keeps selection)) i.held_is
-        ∙ sym (ap (settled_versions (keeps selection)) (met_pass pass ∙ ap (λ (met : List VersionData). met ++ w ∷ []) i.held_is));
+        i.chosen_is ∙ ap (settled_versions (keeps selection)) i.pending_is
+        ∙ sym (ap (settled_versions (keeps selection)) (met_pass pass ∙ ap (λ (met : List VersionData). met ++ w ∷ []) i.pending_is));
   }
 
   -- a version that passes after the pending one
@@ -84,10 +85,10 @@ module _ (selection : Selection) (list : List VersionData) (place : ℕ) (w : Ve
       → passes selection w ≡ true → v ≡ get_or list before v →
       IsChoosing selection list (place + 1) (Some place) (chosen ++ singleton_if (keeps selection v (Some w)) v)
   next_passes before v chosen i pass is =
-      let front = i.held_is.front in
-      let met : met_of selection list place ≡ front ++ v ∷ [] = i.held_is.ends v ∙ ap (λ u. front ++ u ∷ []) (sym is) in
+      let front = i.pending_is.front in
+      let met : met_of selection list place ≡ front ++ v ∷ [] = i.pending_is.ends v ∙ ap (λ u. front ++ u ∷ []) (sym is) in
       record {
-        held_is = held_now pass;
+        pending_is = held_now pass;
         chosen_is =
             ap (λ t. t ++ singleton_if (keeps selection v (Some w)) v) (i.chosen_is ∙ ap (settled_versions (keeps selection)) met)
             ∙ sym (settled_next (keeps selection) front v w)
@@ -95,25 +96,20 @@ module _ (selection : Selection) (list : List VersionData) (place : ℕ) (w : Ve
       }
 
   -- The first version that passes becomes the pending one.
-  pub choose_first : (held held2 : Option ℕ) (chosen chosen2 : List VersionData) → IsChoosing selection list place held chosen
+  pub choose_first : (pending pending2 : Option ℕ) (chosen chosen2 : List VersionData) → IsChoosing selection list place pending chosen
       → passes selection w ≡ true →
-      held ≡ None → held2 ≡ Some place → chosen2 ≡ chosen → IsChoosing selection list (place + 1) held2 chosen2
-  choose_first held held2 chosen chosen2 i pass none now same =
+      pending ≡ None → pending2 ≡ Some place → chosen2 ≡ chosen → IsChoosing selection list (place + 1) pending2 chosen2
+  choose_first pending pending2 chosen chosen2 i pass none now same =
       rw (now, same) (first_passes chosen (subst (λ (h : Option ℕ). IsChoosing selection list place h chosen) none i) pass)
 
   -- The next version that passes decides the pending one.
-  pub choose_next : (held held2 : Option ℕ) (before : ℕ) (v : VersionData) (chosen chosen2 : List VersionData)
-      → IsChoosing selection list place held chosen → passes selection w ≡ true →
-      held ≡ Some before → v ≡ get_or list before v → held2 ≡ Some place → chosen2 ≡ chosen ++ singleton_if (keeps selection v (Some w)) v
-      → IsChoosing selection list (place + 1) held2 chosen2
-  choose_next held held2 before v chosen chosen2 i pass some is now more =
+  pub choose_next : (pending pending2 : Option ℕ) (before : ℕ) (v : VersionData) (chosen chosen2 : List VersionData)
+      → IsChoosing selection list place pending chosen → passes selection w ≡ true →
+      pending ≡ Some before → v ≡ get_or list before v → pending2 ≡ Some place
+      → chosen2 ≡ chosen ++ singleton_if (keeps selection v (Some w)) v
+      → IsChoosing selection list (place + 1) pending2 chosen2
+  choose_next pending pending2 before v chosen chosen2 i pass some is now more =
       rw (now, more) (next_passes before v chosen (subst (λ (h : Option ℕ). IsChoosing selection list place h chosen) some i) pass is)
-
--- A set is the set of its list.
-pub set_listed : (s : VersionSet) → from_list {R = version_cmp} (to_list s) ≡ s
-set_listed s =
-    same_set version_cmp_total version_cmp-IsAntisymmetric (from_list (to_list s)) s
-    (λ v. contains-from_list version_cmp_total (to_list s) v ∙ sym (contains-listed {R = version_cmp} s v))
 
 -- all versions were read
 module _ (selection : Selection) (s : VersionSet) (place : ℕ) (whole : length (to_list s) ≤ place) where
@@ -127,23 +123,24 @@ module _ (selection : Selection) (s : VersionSet) (place : ℕ) (whole : length 
       ∙ set_listed (selection_of selection s)
 
   -- no version passed
-  pub choose_none : (held : Option ℕ) (chosen chosen2 : List VersionData) → IsChoosing selection (to_list s) place held chosen → held ≡ None
+  pub choose_none : (pending : Option ℕ) (chosen chosen2 : List VersionData) → IsChoosing selection (to_list s) place pending chosen
+      → pending ≡ None
       → chosen2 ≡ chosen → from_list {R = version_cmp} chosen2 ≡ selection_of selection s
-  choose_none held chosen chosen2 i none same =
+  choose_none pending chosen chosen2 i none same =
       let j : IsChoosing selection (to_list s) place None chosen =
       subst (λ (h : Option ℕ). IsChoosing selection (to_list s) place h chosen) none i in
-      done chosen2 (same ∙ j.chosen_is ∙ ap (settled_versions (keeps selection)) j.held_is
-      ∙ sym (ap (versions_that_stay (keeps selection)) j.held_is))
+      done chosen2 (same ∙ j.chosen_is ∙ ap (settled_versions (keeps selection)) j.pending_is
+      ∙ sym (ap (versions_that_stay (keeps selection)) j.pending_is))
 
   -- the last version that passed is decided
-  pub choose_last : (held : Option ℕ) (last : ℕ) (v : VersionData) (chosen chosen2 : List VersionData)
-      → IsChoosing selection (to_list s) place held chosen → held ≡ Some last → v ≡ get_or (to_list s) last v →
+  pub choose_last : (pending : Option ℕ) (last : ℕ) (v : VersionData) (chosen chosen2 : List VersionData)
+      → IsChoosing selection (to_list s) place pending chosen → pending ≡ Some last → v ≡ get_or (to_list s) last v →
       chosen2 ≡ chosen ++ singleton_if (stays selection v None) v → from_list {R = version_cmp} chosen2 ≡ selection_of selection s
-  choose_last held last v chosen chosen2 i some is more =
+  choose_last pending last v chosen chosen2 i some is more =
       let j : IsChoosing selection (to_list s) place (Some last) chosen =
       subst (λ (h : Option ℕ). IsChoosing selection (to_list s) place h chosen) some i in
-      let met : met_of selection (to_list s) place ≡ j.held_is.front ++ v ∷ [] =
-      j.held_is.ends v ∙ ap (λ u. j.held_is.front ++ u ∷ []) (sym is) in
+      let met : met_of selection (to_list s) place ≡ j.pending_is.front ++ v ∷ [] =
+      j.pending_is.ends v ∙ ap (λ u. j.pending_is.front ++ u ∷ []) (sym is) in
       done chosen2
       (more ∙ ap (λ t. t ++ singleton_if (keeps selection v None) v) (j.chosen_is ∙ ap (settled_versions (keeps selection)) met) ∙ sym
-      (kept_end (keeps selection) (j.held_is.front) v) ∙ sym (ap (versions_that_stay (keeps selection)) met))
+      (kept_end (keeps selection) (j.pending_is.front) v) ∙ sym (ap (versions_that_stay (keeps selection)) met))

@@ -1,15 +1,15 @@
-mod OrderLaws
+pub mod OrderLaws
 mod AscendingLaws
 mod TreeLaws
 pub mod GiveLaws
 mod Asking
-mod PassLaws
-mod ObjectLaws
+pub mod PassLaws
+pub mod ObjectLaws
 mod SelectedLaws
 mod Choosing
 mod NewestLaws
 mod State
-mod Settling
+pub mod Settling
 mod MergeLaws
 pub mod UnionLaws
 mod RepeatLaws

@@ -97,52 +97,54 @@ not_both true b h = inr h
 not_both false b h = inl refl
 
 -- a version that is met is greater than the pending one
-pub met_is_new : (selection : Selection) (held : Option VersionData) (v : VersionData) → is_met selection held v ≡ true →
-    is_new held v ≡ true
-met_is_new selection held v is = (both_so (is_new held v) (passes selection v) is).0
+pub met_is_new : (selection : Selection) (pending : Option VersionData) (v : VersionData) → is_met selection pending v ≡ true →
+    is_new pending v ≡ true
+met_is_new selection pending v is = (both_so (is_new pending v) (passes selection v) is).0
 
 -- The versions that were met still ascend strictly with the next one.
-pub ascends_next : (selection : Selection) (held : Option VersionData) (v : VersionData) (met : List VersionData) → Ends held met →
-    IsStrictlySortedBy version_cmp met → IsStrictlySortedBy version_cmp (met_next selection held v met)
-ascends_next selection held v met e h =
-    elim (is_met selection held v) as (λ b. is_met selection held v ≡ b → IsStrictlySortedBy version_cmp (cond b (met ++ v ∷ []) met)) [
-      | true ↦ λ is. ascends_with held v met e (met_is_new selection held v is) h
+pub ascends_next : (selection : Selection) (pending : Option VersionData) (v : VersionData) (met : List VersionData) → Ends pending met →
+    IsStrictlySortedBy version_cmp met → IsStrictlySortedBy version_cmp (met_next selection pending v met)
+ascends_next selection pending v met e h =
+    elim (is_met selection pending v) as (λ b. is_met selection pending v ≡ b
+    → IsStrictlySortedBy version_cmp (cond b (met ++ v ∷ []) met)) [
+      | true ↦ λ is. ascends_with pending v met e (met_is_new selection pending v is) h
       | false ↦ λ is. h
     ] refl
 
 -- after a version is taken, the pending version is still the last of those met
-pub ends_next : (selection : Selection) (held : Option VersionData) (v : VersionData) (met : List VersionData) → Ends held met →
-    Ends (pending_next selection held v) (met_next selection held v met)
-ends_next selection held v met e =
-    elim (is_met selection held v) as (λ b. Ends (cond b (Some v) held) (cond b (met ++ v ∷ []) met)) [
+pub ends_next : (selection : Selection) (pending : Option VersionData) (v : VersionData) (met : List VersionData) → Ends pending met →
+    Ends (pending_next selection pending v) (met_next selection pending v met)
+ends_next selection pending v met e =
+    elim (is_met selection pending v) as (λ b. Ends (cond b (Some v) pending) (cond b (met ++ v ∷ []) met)) [
       | true ↦ (met, refl)
       | false ↦ e
     ]
 
-under_floor : (held top : Option VersionData) (v : VersionData) → IsUnder held top → Floor top (v ∷ []) → Floor held (v ∷ [])
+under_floor : (pending top : Option VersionData) (v : VersionData) → IsUnder pending top → Floor top (v ∷ []) → Floor pending (v ∷ [])
 under_floor None top v u f = tt
 under_floor (Some h) None v u f = absurd u
 under_floor (Some h) (Some t) v u f = (upto version_cmp_total h t v u f.0, tt)
 
-under_it : (held : Option VersionData) (v : VersionData) → Floor held (v ∷ []) → IsUnder held (Some v)
+under_it : (pending : Option VersionData) (v : VersionData) → Floor pending (v ∷ []) → IsUnder pending (Some v)
 under_it None v f = tt
 under_it (Some h) v f = f.0
 
-under_next : (selection : Selection) (held : Option VersionData) (v : VersionData) → Floor held (v ∷ []) →
-    IsUnder (pending_next selection held v) (Some v)
-under_next selection held v f =
-    elim (is_met selection held v) as (λ b. IsUnder (cond b (Some v) held) (Some v)) [
+under_next : (selection : Selection) (pending : Option VersionData) (v : VersionData) → Floor pending (v ∷ []) →
+    IsUnder (pending_next selection pending v) (Some v)
+under_next selection pending v f =
+    elim (is_met selection pending v) as (λ b. IsUnder (cond b (Some v) pending) (Some v)) [
       | true ↦ ap is_gt (tied_itself version_cmp_total v)
-      | false ↦ under_it held v f
+      | false ↦ under_it pending v f
     ]
 
-reached_next : (selection : Selection) (held : Option VersionData) (v : VersionData) → Floor held (v ∷ []) → passes selection v ≡ true →
-    pending_next selection held v ≡ Some v
-reached_next selection held v f pass =
-    elim (is_met selection held v) as (λ b. is_met selection held v ≡ b → cond b (Some v) held ≡ Some v) [
+reached_next : (selection : Selection) (pending : Option VersionData) (v : VersionData) → Floor pending (v ∷ []) → passes selection v ≡ true
+    →
+    pending_next selection pending v ≡ Some v
+reached_next selection pending v f pass =
+    elim (is_met selection pending v) as (λ b. is_met selection pending v ≡ b → cond b (Some v) pending ≡ Some v) [
       | true ↦ λ is. refl
-      | false ↦ λ is. elim (not_both (is_new held v) (passes selection v) is) [
-        | inl old ↦ old_is_last held v f old
+      | false ↦ λ is. elim (not_both (is_new pending v) (passes selection v) is) [
+        | inl old ↦ old_is_last pending v f old
         | inr out ↦ absurd (false≢true (sym out ∙ pass))
       ]
     ] refl
@@ -177,42 +179,45 @@ among_end q v (w ∷ ws) h = ap (λ t. eq_by_cmp version_cmp q w || t) (among_en
 pub among_ends : (q v : VersionData) (put : List VersionData) → Ends (Some v) put → eq_by_cmp version_cmp q v ≡ true → among q put ≡ true
 among_ends q v put e h = ap (among q) e.1 ∙ among_end q v (e.0) h
 
-same_next : (selection : Selection) (held : Option VersionData) (v : VersionData) (met : List VersionData) (q : VersionData) (more : Bool) →
-    Ends held met → Floor held (v ∷ []) → (among q met || ((eq_by_cmp version_cmp q v || more) && passes selection q))
-    ≡ (among q (met_next selection held v met) || (more && passes selection q))
-same_next selection held v met q more e f =
-    elim (is_met selection held v) as (λ b. is_met selection held v ≡ b →
+same_next : (selection : Selection) (pending : Option VersionData) (v : VersionData) (met : List VersionData) (q : VersionData)
+    (more : Bool) →
+    Ends pending met → Floor pending (v ∷ []) → (among q met || ((eq_by_cmp version_cmp q v || more) && passes selection q))
+    ≡ (among q (met_next selection pending v met) || (more && passes selection q))
+same_next selection pending v met q more e f =
+    elim (is_met selection pending v) as (λ b. is_met selection pending v ≡ b →
     (among q met || ((eq_by_cmp version_cmp q v || more) && passes selection q))
     ≡ (among q (cond b (met ++ v ∷ []) met) || (more && passes selection q))) [
       | true ↦ λ is.
           join_new (among q met) (eq_by_cmp version_cmp q v) more (passes selection q)
-          (λ tied. ap (passes selection) (equal_versions q v tied) ∙ (both_so (is_new held v) (passes selection v) is).1)
+          (λ tied. ap (passes selection) (equal_versions q v tied) ∙ (both_so (is_new pending v) (passes selection v) is).1)
           ∙ ap (λ t. t || (more && passes selection q)) (sym (list_any-append (eq_by_cmp version_cmp q) met (v ∷ [])))
       | false ↦ λ is.
           join_old (among q met) (eq_by_cmp version_cmp q v) more (passes selection q)
-          (λ tied. elim (not_both (is_new held v) (passes selection v) is) [
-            | inl old ↦ inl (among_ends q v met (subst (λ l. Ends l met) (old_is_last held v f old) e) tied)
+          (λ tied. elim (not_both (is_new pending v) (passes selection v) is) [
+            | inl old ↦ inl (among_ends q v met (subst (λ l. Ends l met) (old_is_last pending v f old) e) tied)
             | inr out ↦ inr (ap (passes selection) (equal_versions q v tied) ∙ out)
           ])
     ] refl
 
 -- ---- the turn
 -- After the least head is taken, the merge is one version further.
-pub merge_more : (selection : Selection) (all states : List VersionsToCome) (met : List VersionData) (held top : Option VersionData)
+pub merge_more : (selection : Selection) (all states : List VersionsToCome) (met : List VersionData) (pending top : Option VersionData)
     (taken w : ℕ) (v : VersionData)
-    → IsMerging selection all states met held top taken → w < length states → head (rest_at states w) ≡ Some v
+    → IsMerging selection all states met pending top taken → w < length states → head (rest_at states w) ≡ Some v
     → ((i : ℕ) → IsHeadUpTo (Some v) (head (rest_at states i)))
-    → IsMerging selection all (without_head states w) (met_next selection held v met) (pending_next selection held v) (Some v) (taken + 1)
-merge_more selection all states met held top taken w v m less is least =
+    → IsMerging selection all (without_head states w) (met_next selection pending v met) (pending_next selection pending v) (Some v)
+    (taken + 1)
+merge_more selection all states met pending top taken w v m less is least =
     let here : VersionsToCome = rest_at states w in
     let e : here.list ≡ v ∷ rest here.list = split_first v here.list is in
-    let f : Floor held (v ∷ []) = under_floor held top v m.under (floor_one top v (rest here.list) (subst (Floor top) e (m.floor w))) in
+    let f : Floor pending (v ∷ []) = under_floor pending top v m.under (floor_one top v (rest here.list) (subst (Floor top) e (m.floor w)))
+    in
     let same_place : rest_at (without_head states w) w ≡ after_head here = get_or-set_same states w (after_head here) end_whole less in
     let other : (i : ℕ) → i ≢ w → rest_at (without_head states w) i ≡ rest_at states i =
     λ i n. get_or-set_other states w i (after_head here) end_whole n in
     record {
       size = length-set states w (after_head here) ∙ m.size;
-      ascends = ascends_next selection held v met m.ends m.ascends;
+      ascends = ascends_next selection pending v met m.ends m.ascends;
       queues = λ i. elim (cases_eq i w) [
         | inl at_w ↦ subst (λ j. IsStrictlySortedBy version_cmp (rest_at (without_head states w) j).list) (sym at_w)
             (subst (λ s. IsStrictlySortedBy version_cmp s.list) (sym same_place)
@@ -236,10 +241,10 @@ merge_more selection all states met held top taken w v m less is least =
       ];
       same = λ q. m.same q
           ∙ ap (λ t. among q met || (t && passes selection q)) (any_taken (eq_by_cmp version_cmp q) states w v (rest here.list) e)
-          ∙ same_next selection held v met q (among q (versions_of (without_head states w))) m.ends f;
-      ends = ends_next selection held v met m.ends;
-      under = under_next selection held v f;
-      reached = reached_next selection held v f;
+          ∙ same_next selection pending v met q (among q (versions_of (without_head states w))) m.ends f;
+      ends = ends_next selection pending v met m.ends;
+      under = under_next selection pending v f;
+      reached = reached_next selection pending v f;
       floor = λ i.
           elim (cases_eq i w) [
             | inl at_w ↦ subst (λ j. Floor (Some v) (rest_at (without_head states w) j).list) (sym at_w)

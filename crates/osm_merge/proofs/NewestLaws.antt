@@ -15,7 +15,7 @@ use Rattle.osm_merge.specs.Members.{first}
 use Rattle.osm_merge.specs.Pass.{singleton_if, keeps, versions_that_stay}
 use Rattle.osm_merge.specs.Selected.{snapshot}
 use Rattle.osm_merge.proofs.SelectedLaws.{pass_of_set}
-use Rattle.osm_merge.proofs.Choosing.{set_listed}
+use Rattle.osm_files.proofs.HoldLaws.{set_listed}
 
 -- The versions of a list that are the newest ones of their objects.
 abbrev pub newest_of : List VersionData → List VersionData

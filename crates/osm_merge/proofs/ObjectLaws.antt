@@ -10,7 +10,7 @@ use Rattle.osm_merge.specs.Pass.{same_object}
 use Rattle.osm_merge.proofs.OrderLaws.{no_more}
 
 -- A comparison by two orders that isn't greater isn't greater by the first.
-not_falling : (a b : Ordering) → is_gt (ordering_then a b) ≡ false → is_gt a ≡ false
+pub not_falling : (a b : Ordering) → is_gt (ordering_then a b) ≡ false → is_gt a ≡ false
 not_falling Less b e = refl
 not_falling Equal b e = refl
 not_falling Greater b e = e

@@ -14,7 +14,8 @@ use Rattle.osm_merge.specs.declared.object.Span.{Span}
 use Rattle.osm_merge.specs.Members.{union_all}
 use Rattle.osm_merge.specs.Slice.{reaches, is_under, is_within, slice_of, span_of, spans_from, IsWithin}
 use Rattle.osm_merge.specs.SliceLaws.{SetsWithinAreSlices}
-use Rattle.osm_merge.proofs.SliceLaws.{kept_in, equal, Rise, rise, reaches_lower, slices_from}
+use Rattle.osm_merge.proofs.SliceLaws.{kept_in, Rise, rise, reaches_lower, slices_from}
+use Rattle.osm_files.proofs.SpellLaws.{equal_sets as equal}
 use Rattle.osm_merge.proofs.UnionAllLaws.{in_union_all, some_has}
 
 -- Each member of a set within a span is within the span.

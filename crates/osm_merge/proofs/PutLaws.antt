@@ -35,14 +35,14 @@ at_once_pass (selections.StateVisible t) h v = absurd (false≢true h)
 at_once_pass (selections.Between from to) h v = absurd (false≢true h)
 
 -- After a version that passes there is a pending version.
-pub some_held : (selection : Selection) (last : Option VersionData) (v : VersionData) → passes selection v ≡ true
+pub some_pending : (selection : Selection) (last : Option VersionData) (v : VersionData) → passes selection v ≡ true
     → pending_next selection last v ≡ None → ⊥
-some_held selection None v pass e =
+some_pending selection None v pass e =
     elim (passes selection v) as (λ b. b ≡ true → cond b (Some v) None ≡ None → ⊥) [
       | true ↦ λ h e. cc
       | false ↦ λ h e. absurd (false≢true h)
     ] pass e
-some_held selection (Some l) v pass e =
+some_pending selection (Some l) v pass e =
     elim (is_met selection (Some l) v) as (λ b. cond b (Some v) (Some l) ≡ None → ⊥) [
       | true ↦ λ e. cc
       | false ↦ λ e. cc

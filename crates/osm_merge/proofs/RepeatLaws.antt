@@ -15,10 +15,10 @@ use Rattle.osm_merge.specs.Repeats.{other_index, repeats_after, repeats_after_ta
 use Rattle.osm_merge.specs.Repeats.{comparison_count}
 
 -- a version is not met after itself
-pub past_itself : (selection : Selection) (held : Option VersionData) (v : VersionData) →
-    is_met selection (pending_next selection held v) v ≡ false
-past_itself selection held v =
-    elim (is_met selection held v) as (λ b. is_met selection held v ≡ b → is_met selection (cond b (Some v) held) v ≡ false) [
+pub past_itself : (selection : Selection) (pending : Option VersionData) (v : VersionData) →
+    is_met selection (pending_next selection pending v) v ≡ false
+past_itself selection pending v =
+    elim (is_met selection pending v) as (λ b. is_met selection pending v ≡ b → is_met selection (cond b (Some v) pending) v ≡ false) [
       | true ↦ λ h. ap (λ r. is_lt r && passes selection v) (tied_itself version_cmp_total v)
       | false ↦ λ h. h
     ] refl
@@ -29,11 +29,11 @@ pub nothing_known : (selection : Selection) (heads : List (Option VersionData)) 
 nothing_known selection heads = record { tied = tt; past = tt }
 
 -- a head that is known to repeat the version taken last is not met
-pub known_past : {selection : Selection} {held : Option VersionData} {heads : List (Option VersionData)} {repeats : Repeats} (place : ℕ)
-    (v : VersionData) → AreTrueRepeats selection held heads repeats → repeats.taken ≡ Some place → get_or heads place None ≡ Some v
-    → is_met selection held v ≡ false
-known_past {selection} {held} {heads} place v known is at =
-    subst (IsPast selection held) at (subst (IsPastAt selection held heads) is known.past)
+pub known_past : {selection : Selection} {pending : Option VersionData} {heads : List (Option VersionData)} {repeats : Repeats} (place : ℕ)
+    (v : VersionData) → AreTrueRepeats selection pending heads repeats → repeats.taken ≡ Some place → get_or heads place None ≡ Some v
+    → is_met selection pending v ≡ false
+known_past {selection} {pending} {heads} place v known is at =
+    subst (IsPast selection pending) at (subst (IsPastAt selection pending heads) is known.past)
 
 known_with : (tie : Tie) (o : Option ℕ) → comparison_count (repeats_after o tie) ≡ 1
 known_with tie None = refl
@@ -45,22 +45,22 @@ known_then None place = refl
 known_then (Some tie) place = known_with tie (other_index tie place)
 
 -- the head of the source `w` is taken
-module _ (selection : Selection) (held : Option VersionData) (heads : List (Option VersionData)) (w : ℕ) (v : VersionData)
+module _ (selection : Selection) (pending : Option VersionData) (heads : List (Option VersionData)) (w : ℕ) (v : VersionData)
     (given : Option VersionData) (at_w : get_or heads w None ≡ Some v) where
   abbrev heads2 : List (Option VersionData)
   heads2 = set heads w given
 
   -- the known equal heads once the head was taken
   abbrev IsKnownNow : Repeats → Type 0
-  IsKnownNow repeats = IsTied heads2 repeats.tie × IsPastAt selection (pending_next selection held v) heads2 repeats.taken
+  IsKnownNow repeats = IsTied heads2 repeats.tie × IsPastAt selection (pending_next selection pending v) heads2 repeats.taken
 
   stays_at : (place : ℕ) → (place == w) ≡ false → get_or heads2 place None ≡ get_or heads place None
   stays_at place h = get_or-set_other heads w place given None (eqb-false place w h)
 
   past_at : (place : ℕ) → (place == w) ≡ false → get_or heads place None ≡ get_or heads w None →
-      IsPastAt selection (pending_next selection held v) heads2 (Some place)
-  past_at place h same = subst (IsPast selection (pending_next selection held v)) (sym (stays_at place h ∙ same ∙ at_w))
-      (past_itself selection held v)
+      IsPastAt selection (pending_next selection pending v) heads2 (Some place)
+  past_at place h same = subst (IsPast selection (pending_next selection pending v)) (sym (stays_at place h ∙ same ∙ at_w))
+      (past_itself selection pending v)
 
   -- The known equal heads are still equal after a head was taken.
   pub known_after : (tie : Option Tie) → IsTied heads tie → IsKnownNow (repeats_after_taking tie w)

@@ -19,7 +19,7 @@ use Rattle.osm_merge.proofs.AscendingLaws.{one_ascends, first_below, rest_ascend
 use Rattle.osm_merge.proofs.PassLaws.{keep_all, kept_end, settled_next}
 
 -- ---- the output of a pass ascends
-all_append : {K : Type 0} (P : K → Type 0) (xs ys : List K) → AllByRecursion P xs → AllByRecursion P ys → AllByRecursion P (xs ++ ys)
+pub all_append : {K : Type 0} (P : K → Type 0) (xs ys : List K) → AllByRecursion P xs → AllByRecursion P ys → AllByRecursion P (xs ++ ys)
 all_append P [] ys h k = k
 all_append P (x ∷ xs) ys h k = (h.0, all_append P xs ys h.1 k)
 
@@ -78,70 +78,71 @@ module _ {K : Type 0} (R : K → K → Ordering) where
 abbrev pub AscendAfter : List VersionData → List VersionData → Type 0
 AscendAfter put versions = AllByRecursion (λ v. IsStrictlySortedBy version_cmp (put ++ v ∷ [])) versions
 
-held_may_follow : (selection : Selection) (held rest : Option VersionData) (met : List VersionData) → Ends held met →
-    IsStrictlySortedBy version_cmp met → AscendAfter (settled_versions (keeps selection) met) (pending_if_kept selection held rest)
-held_may_follow selection None rest met e h = tt
-held_may_follow selection (Some l) rest met e h =
+pending_may_follow : (selection : Selection) (pending rest : Option VersionData) (met : List VersionData) → Ends pending met →
+    IsStrictlySortedBy version_cmp met → AscendAfter (settled_versions (keeps selection) met) (pending_if_kept selection pending rest)
+pending_may_follow selection None rest met e h = tt
+pending_may_follow selection (Some l) rest met e h =
     all_only (λ v. IsStrictlySortedBy version_cmp (settled_versions (keeps selection) met ++ v ∷ [])) (keeps selection l rest) l
     (subst (λ t. IsStrictlySortedBy version_cmp (settled_versions (keeps selection) t ++ l ∷ [])) (sym e.1)
     (settled_ascends version_cmp (keeps selection) (e.0) l (subst (IsStrictlySortedBy version_cmp) e.1 h)))
 
 -- The versions put when a version is met ascend after those put before.
-pub may_put : (selection : Selection) (held : Option VersionData) (v : VersionData) (met : List VersionData) → Ends held met →
+pub may_put : (selection : Selection) (pending : Option VersionData) (v : VersionData) (met : List VersionData) → Ends pending met →
     IsStrictlySortedBy version_cmp met → IsStrictlySortedBy version_cmp (met ++ v ∷ []) →
-    AscendAfter (put_of selection met) (put_at selection held v)
-may_put selection held v met e h up =
+    AscendAfter (put_of selection met) (put_at selection pending v)
+may_put selection pending v met e h up =
     elim (puts_at_once selection) as (λ b. AscendAfter (cond b met (settled_versions (keeps selection) met))
-    (cond b (v ∷ []) (pending_if_kept selection held (Some v)))) [
+    (cond b (v ∷ []) (pending_if_kept selection pending (Some v)))) [
       | true ↦ (up, tt)
-      | false ↦ held_may_follow selection held (Some v) met e h
+      | false ↦ pending_may_follow selection pending (Some v) met e h
     ]
 
 -- The versions put at the end ascend after those put before.
-pub may_end : (selection : Selection) (held : Option VersionData) (met : List VersionData) → Ends held met →
-    IsStrictlySortedBy version_cmp met → AscendAfter (put_of selection met) (put_at_end selection held)
-may_end selection held met e h =
+pub may_end : (selection : Selection) (pending : Option VersionData) (met : List VersionData) → Ends pending met →
+    IsStrictlySortedBy version_cmp met → AscendAfter (put_of selection met) (put_at_end selection pending)
+may_end selection pending met e h =
     elim (puts_at_once selection) as (λ b. AscendAfter (cond b met (settled_versions (keeps selection) met))
-    (cond b [] (pending_if_kept selection held None))) [
+    (cond b [] (pending_if_kept selection pending None))) [
       | true ↦ tt
-      | false ↦ held_may_follow selection held None met e h
+      | false ↦ pending_may_follow selection pending None met e h
     ]
 
-settled_more : (selection : Selection) (held : Option VersionData) (v : VersionData) (met : List VersionData) → Ends held met →
-    settled_versions (keeps selection) met ++ pending_if_kept selection held (Some v) ≡ settled_versions (keeps selection) (met ++ v ∷ [])
+settled_more : (selection : Selection) (pending : Option VersionData) (v : VersionData) (met : List VersionData) → Ends pending met →
+    settled_versions (keeps selection) met ++ pending_if_kept selection pending (Some v) ≡ settled_versions (keeps selection)
+    (met ++ v ∷ [])
 settled_more selection None v met e = subst (λ t. settled_versions (keeps selection) t
     ++ [] ≡ settled_versions (keeps selection) (t ++ v ∷ [])) (sym e) refl
 settled_more selection (Some l) v met e = subst (λ t. settled_versions (keeps selection) t ++ singleton_if (keeps selection l (Some v)) l
     ≡ settled_versions (keeps selection) (t ++ v ∷ [])) (sym e.1) (sym (settled_next (keeps selection) (e.0) l v))
 
 -- the versions put before a version is met, and when it is met, are those put for one more version
-pub put_more : (selection : Selection) (held : Option VersionData) (v : VersionData) (met : List VersionData) → Ends held met →
-    put_of selection met ++ put_at selection held v ≡ put_of selection (met ++ v ∷ [])
-put_more selection held v met e =
+pub put_more : (selection : Selection) (pending : Option VersionData) (v : VersionData) (met : List VersionData) → Ends pending met →
+    put_of selection met ++ put_at selection pending v ≡ put_of selection (met ++ v ∷ [])
+put_more selection pending v met e =
     elim (puts_at_once selection) as (λ b. cond b met (settled_versions (keeps selection) met)
-    ++ cond b (v ∷ []) (pending_if_kept selection held (Some v))
+    ++ cond b (v ∷ []) (pending_if_kept selection pending (Some v))
     ≡ cond b (met ++ v ∷ []) (settled_versions (keeps selection) (met ++ v ∷ []))) [
       | true ↦ refl
-      | false ↦ settled_more selection held v met e
+      | false ↦ settled_more selection pending v met e
     ]
 
-settled_all : (selection : Selection) (held : Option VersionData) (met : List VersionData) → Ends held met →
-    settled_versions (keeps selection) met ++ pending_if_kept selection held None ≡ versions_that_stay (keeps selection) met
+settled_all : (selection : Selection) (pending : Option VersionData) (met : List VersionData) → Ends pending met →
+    settled_versions (keeps selection) met ++ pending_if_kept selection pending None ≡ versions_that_stay (keeps selection) met
 settled_all selection None met e = subst (λ t. settled_versions (keeps selection) t ++ [] ≡ versions_that_stay (keeps selection) t)
     (sym e) refl
 settled_all selection (Some l) met e = subst (λ t. settled_versions (keeps selection) t ++ singleton_if (keeps selection l None) l
     ≡ versions_that_stay (keeps selection) t) (sym e.1) (sym (kept_end (keeps selection) (e.0) l))
 
 -- at the end all versions that the pass keeps were put
-pub put_all : (selection : Selection) (held : Option VersionData) (met : List VersionData) → Ends held met →
-    put_of selection met ++ put_at_end selection held ≡ versions_that_stay (keeps selection) met
-put_all All held met e = append-nil met ∙ sym (keep_all met)
-put_all Visible held met e = settled_all Visible held met e
-put_all Newest held met e = settled_all Newest held met e
-put_all NewestVisible held met e = settled_all NewestVisible held met e
-put_all (State t) held met e = settled_all (State t) held met e
-put_all (StateVisible t) held met e = settled_all (StateVisible t) held met e
-put_all (Between from to) held met e = settled_all (Between from to) held met e
+pub put_all : (selection : Selection) (pending : Option VersionData) (met : List VersionData) → Ends pending met →
+    put_of selection met ++ put_at_end selection pending ≡ versions_that_stay (keeps selection) met
+put_all All pending met e = append-nil met ∙ sym (keep_all met)
+put_all Visible pending met e = settled_all Visible pending met e
+put_all Newest pending met e = settled_all Newest pending met e
+put_all NewestVisible pending met e = settled_all NewestVisible pending met e
+put_all (State t) pending met e = settled_all (State t) pending met e
+put_all (StateVisible t) pending met e = settled_all (StateVisible t) pending met e
+put_all (Between from to) pending met e = settled_all (Between from to) pending met e
 
 -- Nothing is put before a version is met.
 pub put_nothing : (selection : Selection) → put_of selection [] ≡ []
@@ -151,12 +152,12 @@ put_nothing selection = elim (puts_at_once selection) as (λ b. cond b [] (settl
 ]
 
 -- the versions put once a version was met
-pub put_next : (selection : Selection) (held : Option VersionData) (v : VersionData) (met : List VersionData) → Ends held met →
-    put_of selection met ++ versions_put selection held v ≡ put_of selection (met_next selection held v met)
-put_next selection held v met e =
-    elim (is_met selection held v) as (λ b. put_of selection met ++ cond b (put_at selection held v) []
+pub put_next : (selection : Selection) (pending : Option VersionData) (v : VersionData) (met : List VersionData) → Ends pending met →
+    put_of selection met ++ versions_put selection pending v ≡ put_of selection (met_next selection pending v met)
+put_next selection pending v met e =
+    elim (is_met selection pending v) as (λ b. put_of selection met ++ cond b (put_at selection pending v) []
     ≡ put_of selection (cond b (met ++ v ∷ []) met)) [
-      | true ↦ put_more selection held v met e
+      | true ↦ put_more selection pending v met e
       | false ↦ append-nil (put_of selection met)
     ]
 

@@ -35,6 +35,7 @@ use Rattle.osm_merge.proofs.ObjectLaws.{object_rises}
 use Rattle.osm_merge.proofs.PassLaws.{filter_filter, filter_none}
 use Rattle.osm_merge.proofs.SelectedLaws.{listed_with, none_next}
 use Rattle.osm_merge.proofs.SnapLaws.{contains-retain, retain_all}
+use Rattle.osm_files.proofs.SpellLaws.{equal_sets as equal}
 
 -- ---- the order of objects
 -- The order of objects is total.
@@ -224,15 +225,11 @@ under_same (Some to) v w e = ap is_lt (order_same v w to e)
 within_same : (from to : Option Object) (v w : VersionData) → same_object v w ≡ true → is_within from to v ≡ is_within from to w
 within_same from to v w e = λ i. reaches_same from v w e i && under_same to v w e i
 
--- Two sets with the same members are equal.
-pub equal : (s t : VersionSet) → ((q : VersionData) → contains s q ≡ contains t q) → s ≡ t
-equal = same_set version_cmp_total version_cmp-IsAntisymmetric
-
 -- A filtered set contains the members of the set that pass.
 pub kept_in : (s : VersionSet) (p : VersionData → Bool) (q : VersionData) → contains (retain s p) q ≡ (contains s q && p q)
 kept_in = contains-retain version_cmp_total version_cmp-IsAntisymmetric
 
-and_turn : (a p b : Bool) → ((a && p) && b) ≡ ((a && b) && p)
+pub and_turn : (a p b : Bool) → ((a && p) && b) ≡ ((a && b) && p)
 and_turn true true true = refl
 and_turn true true false = refl
 and_turn true false true = refl

@@ -23,7 +23,8 @@ use Rattle.osm_merge.specs.ToCome.{VersionsToCome, rest}
 use Rattle.osm_merge.specs.Within.{up_to, from_bound, dropped_outside, refused_outside, stray_fault}
 use Rattle.osm_merge.proofs.AscendingLaws.{first_below, rest_ascends}
 use Rattle.osm_merge.proofs.PassLaws.{filter_filter, filter_none}
-use Rattle.osm_merge.proofs.SliceLaws.{none_after, under_down, kept_in, equal}
+use Rattle.osm_merge.proofs.SliceLaws.{none_after, under_down, kept_in}
+use Rattle.osm_files.proofs.SpellLaws.{equal_sets as equal}
 use Rattle.osm_merge.proofs.UnionLaws.{among_filter}
 
 under_falls : (to : Option Object) (v w : VersionData) → version_cmp v w ≡ Less → is_under to w ≡ true → is_under to v ≡ true

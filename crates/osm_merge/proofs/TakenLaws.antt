@@ -22,7 +22,7 @@ use Rattle.osm_merge.specs.Selected.{moment, snapshot}
 use Rattle.osm_merge.specs.declared.taking.OrderBy.{OrderBy}
 use Rattle.osm_merge.specs.declared.taking.OrderBy.TheVariants.{Versions, Objects}
 use Rattle.osm_merge.specs.Taking.{order_of, union_by, greater_of, merge_by}
-use Rattle.osm_merge.proofs.Choosing.{set_listed}
+use Rattle.osm_files.proofs.HoldLaws.{set_listed}
 use Rattle.osm_merge.proofs.NewestLaws.{newest_of}
 use Rattle.osm_merge.proofs.ObjectLaws.{object_rises}
 use Rattle.osm_merge.proofs.SelectedLaws.{pass_of_set}

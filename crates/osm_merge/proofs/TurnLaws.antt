@@ -37,7 +37,7 @@ use Rattle.osm_merge.proofs.UnionLaws.{memory_refused}
 use Rattle.osm_merge.proofs.Running.{MergeTask, output_change, SomeFirstGive, RefusesTask, IsStanding, IsRunning}
 use Rattle.osm_merge.proofs.HeadsLaws.{head_at, length_heads, least_head, after_at, heads_more}
 use Rattle.osm_merge.proofs.CountLaws.{least_turn, least_next, capped_more}
-use Rattle.osm_merge.proofs.PutLaws.{all_pass, at_once_pass, some_held, takes_each, IsFull, is_full, before_is, not_nothing}
+use Rattle.osm_merge.proofs.PutLaws.{all_pass, at_once_pass, some_pending, takes_each, IsFull, is_full, before_is, not_nothing}
 
 module _ {S O : Type 0} {task : MergeTask S O} {heads : List (Option VersionData)} {nodes : List ℕ} {sources : List S} {sink : SinkState}
     {now : O} {last : Option VersionData} {counts : Counts} {repeats : Repeats}
@@ -266,7 +266,7 @@ module _ {S O : Type 0} {task : MergeTask S O} {heads : List (Option VersionData
                 (subst (λ (s : Repeats). IsPastAt task.selection (pending_next task.selection last v) (set heads w given) s.taken) (sym is1)
                 (known_after task.selection last heads w v given at_w repeats.tie r.known.tied).1);
           };
-          fresh = λ p e. absurd (some_held task.selection last v (all_pass task.selection p v) (sym last_is ∙ e));
+          fresh = λ p e. absurd (some_pending task.selection last v (all_pass task.selection p v) (sym last_is ∙ e));
           run = λ later g. (
               let b = stepped (λ e l. SourceStep (Some e) (Ok given) (Some l)) d new step later g in
               let q = b.4 in

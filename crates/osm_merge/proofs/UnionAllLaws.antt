@@ -15,6 +15,7 @@ use Rattle.osm_files.specs.SpellLaws.{AreVersions}
 use Rattle.osm_files.proofs.SpellLaws.{are_versions, unions_are_versions}
 use Rattle.osm_merge.specs.Members.{union_all}
 use Rattle.osm_merge.specs.Laws.{UnionOfTheSame, UnionOfGroups, UnionWithEmpty, UnionStaysInRange}
+use Rattle.osm_files.proofs.SpellLaws.{equal_sets as equal}
 
 -- whether one of some sets has a version
 abbrev pub some_has : List VersionSet → VersionData → Bool
@@ -24,9 +25,6 @@ some_has sets v = list_any (λ s. contains s v) sets
 pub in_union_all : (sets : List VersionSet) (v : VersionData) → contains (union_all sets) v ≡ some_has sets v
 in_union_all [] v = contains-from_list version_cmp_total [] v
 in_union_all (s ∷ sets) v = contains-union version_cmp_total s (union_all sets) v ∙ ap (λ b. contains s v || b) (in_union_all sets v)
-
-equal : (s t : VersionSet) → ((v : VersionData) → contains s v ≡ contains t v) → s ≡ t
-equal = same_set version_cmp_total version_cmp-IsAntisymmetric
 
 has_more : (sets others : List VersionSet) (v : VersionData) → ((s : VersionSet) → Contains sets s → Contains others s) →
     some_has sets v ≡ true → some_has others v ≡ true

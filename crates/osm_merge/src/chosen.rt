@@ -41,18 +41,18 @@ fn choose(alloc: Global, selection: Selection, history: &History) -> Result<Hist
     ensures { IfOk result (λ h. h ≡ set.selection_of selection history.now) }
 {
     let mut chosen = Vec::new(alloc);
-    let mut held: Option<usize> = None;
+    let mut pending: Option<usize> = None;
     for index in 0..history.len() {
         let version = history.get(index);
         if passes(selection, version) {
-            if let Some(before) = held {
+            if let Some(before) = pending {
                 let before = history.get(before);
                 copy_if(keeps(selection, before, version), before, &mut chosen)?;
             }
-            held = Some(index);
+            pending = Some(index);
         }
     }
-    if let Some(last) = held {
+    if let Some(last) = pending {
         let last = history.get(last);
         copy_if(stays(selection, last, None), last, &mut chosen)?;
     }

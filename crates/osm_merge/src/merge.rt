@@ -20,11 +20,11 @@ use std::alloc::Global;
 /// The counts of a merge. A count stops at 2^64 - 1.
 #[derive(Clone, Copy, Debug, PartialEq, Eq)]
 pub struct Counts {
-    /// The versions that the sources gave.
+    /// The number of versions that the sources gave, repeats included.
     pub read: u64,
-    /// The versions that were put.
+    /// The number of versions that were written.
     pub written: u64,
-    /// The comparisons of versions.
+    /// The number of comparisons of two versions.
     pub compared: u64,
 }
 
@@ -106,7 +106,7 @@ fn write_union<S: Source, W: Output, P: Progress>(
     requires repeats { tournament.old.repeats ≡ record { tie = None; taken = None } }
     requires compared { tournament.old.compared ≤ length tournament.old.heads.items - 1 }
     requires size { length tournament.old.heads.items ≡ length sources.old }
-    requires held { pending.old.held ≡ None }
+    requires last { pending.old.last ≡ None }
     requires read { pending.old.counts.read ≡ 0 }
     requires written { pending.old.counts.written ≡ 0 }
     requires sink { sink.old ≡ new_sink sink.old.format sink.old.number }

@@ -21,7 +21,7 @@ pub(crate) struct Pending {
     /// Which versions are written.
     pub(crate) selection: Selection,
     /// The version met last.
-    held: Option<Ranked>,
+    last: Option<Ranked>,
     /// Whether the version that `meet` got last became the pending one.
     is_new: bool,
     /// The counts so far.
@@ -33,14 +33,14 @@ impl Pending {
     pub(crate) fn new(selection: Selection) -> Pending
         ensures { result ≡ record {
           selection = selection;
-          held = None;
+          last = None;
           is_new = false;
           counts = record { read = 0; written = 0; compared = 0 };
         } }
     {
         Pending {
             selection,
-            held: None,
+            last: None,
             is_new: false,
             counts: Counts {
                 read: 0,
@@ -64,20 +64,20 @@ impl Pending {
         out: &mut W,
     ) -> Result<Option<Version>, Fault>
         requires open { IsOpen sink.old }
-        requires takes { is_met self.old.selection self.old.held version ≡ true
-            → TakesEach (put_at self.old.selection self.old.held version) sink.old }
-        requires repeated { is_repeated ≡ true → is_met self.old.selection self.old.held version ≡ false }
-        ensures puts { PutsMore W.Output (versions_put self.old.selection self.old.held version)
+        requires takes { is_met self.old.selection self.old.last version ≡ true
+            → TakesEach (put_at self.old.selection self.old.last version) sink.old }
+        requires repeated { is_repeated ≡ true → is_met self.old.selection self.old.last version ≡ false }
+        ensures puts { PutsMore W.Output (versions_put self.old.selection self.old.last version)
             sink.old sink.new out.old out.new (outcome_of result) }
         ensures lasts { FailingLasts (change_of W.Output out.old out.new) }
         ensures selection { self.new.selection ≡ self.old.selection }
-        ensures held { OnOk result (self.new.held ≡ pending_next self.old.selection self.old.held version) }
+        ensures last { OnOk result (self.new.last ≡ pending_next self.old.selection self.old.last version) }
         ensures read { self.new.counts.read ≡ capped_count (self.old.counts.read + 1) }
-        ensures written { OnOk result (CountsMore (versions_put self.old.selection self.old.held version)
+        ensures written { OnOk result (CountsMore (versions_put self.old.selection self.old.last version)
             self.old.counts.written self.new.counts.written) }
         ensures grows { compared.old ≤ compared.new }
         ensures most { compared.new ≤ compared.old + 1 }
-        ensures least { is_repeated ≡ false → IfSome self.old.held
+        ensures least { is_repeated ≡ false → IfSome self.old.last
             (λ _. capped_count (compared.old + 1) ≤ compared.new) }
     {
         self.counts.read = self.counts.read.saturating_add(1);
@@ -87,7 +87,7 @@ impl Pending {
         }
         self.put_decided(Some(version.version()), sink, out)?;
         self.is_new = true;
-        Ok(self.held.replace(version).map(Ranked::into_version))
+        Ok(self.last.replace(version).map(Ranked::into_version))
     }
 
     /// Reports the version that `meet` got last, and the version that it wrote, if it wrote one. `written` is the
@@ -99,14 +99,14 @@ impl Pending {
         spare: Option<&Version>,
         progress: &mut P,
     ) {
-        let held = version_of(&self.held);
-        match (held, spare) {
+        let last = version_of(&self.last);
+        match (last, spare) {
             (Some(version), _) if self.is_new => progress.read(version, relation(spare, version)),
             (_, Some(version)) => progress.read(version, Relation::Dropped),
             _ => {}
         }
         let put = if puts_at_once(self.selection) {
-            held
+            last
         } else {
             spare
         };
@@ -123,7 +123,7 @@ impl Pending {
         outcome: &Result<Counts, Fault>,
         progress: &mut P,
     ) {
-        if let Some(version) = version_of(&self.held)
+        if let Some(version) = version_of(&self.last)
             && outcome.is_ok()
             && !puts_at_once(self.selection)
             && keeps_before(self.selection, version, None)
@@ -135,12 +135,12 @@ impl Pending {
     /// Whether a version passes and is greater than the pending one.
     #[inline(always)]
     fn is_met(&self, version: &Ranked, compared: &mut u64) -> bool
-        ensures met { result ≡ is_met self.now.selection self.now.held version.now }
+        ensures met { result ≡ is_met self.now.selection self.now.last version.now }
         ensures grows { compared.old ≤ compared.new }
         ensures most { compared.new ≤ compared.old + 1 }
-        ensures least { IfSome self.now.held (λ _. capped_count (compared.old + 1) ≤ compared.new) }
+        ensures least { IfSome self.now.last (λ _. capped_count (compared.old + 1) ≤ compared.new) }
     {
-        is_new(&self.held, version, compared) && passes(self.selection, version.version())
+        is_new(&self.last, version, compared) && passes(self.selection, version.version())
     }
 
     /// Writes the version that `next` decides; `None` is the end of all versions. If all versions are written at once,
@@ -153,29 +153,31 @@ impl Pending {
         out: &mut W,
     ) -> Result<(), Fault>
         requires open { IsOpen sink.old }
-        requires takes { TakesEach (put_with self.old.selection self.old.held (option_copied next)) sink.old }
-        ensures puts { PutsMore W.Output (put_with self.old.selection self.old.held (option_copied next.entry))
+        requires takes { TakesEach (put_with self.old.selection self.old.last (option_copied next)) sink.old }
+        ensures puts { PutsMore W.Output (put_with self.old.selection self.old.last (option_copied next.entry))
             sink.old sink.new out.old out.new result }
         ensures lasts { FailingLasts (change_of W.Output out.old out.new) }
         ensures open { OnOk result (IsOpen sink.new) }
         ensures selection { self.new.selection ≡ self.old.selection }
-        ensures held { self.new.held ≡ self.old.held }
+        ensures last { self.new.last ≡ self.old.last }
         ensures read { self.new.counts.read ≡ self.old.counts.read }
-        ensures written { OnOk result (CountsMore (put_with self.old.selection self.old.held (option_copied next.entry))
+        ensures written { OnOk result (CountsMore (put_with self.old.selection self.old.last (option_copied next.entry))
             self.old.counts.written self.new.counts.written) }
     {
         if puts_at_once(self.selection) {
             return match next {
                 None => Ok(()),
-                Some(version) => put_if(true, version, &mut self.counts, sink, out),
+                Some(version) => put(version, &mut self.counts, sink, out),
             };
         }
-        match &self.held {
+        match &self.last {
             None => Ok(()),
-            Some(held) => {
-                let held = held.version();
-                let stays = keeps_before(self.selection, held, next);
-                put_if(stays, held, &mut self.counts, sink, out)
+            Some(last) => {
+                let last = last.version();
+                if !keeps_before(self.selection, last, next) {
+                    return Ok(());
+                }
+                put(last, &mut self.counts, sink, out)
             }
         }
     }
@@ -188,12 +190,12 @@ impl Pending {
         out: &mut W,
     ) -> Result<Counts, Fault>
         requires open { IsOpen sink.old }
-        requires takes { TakesEach (put_at_end self.old.selection self.old.held) sink.old }
+        requires takes { TakesEach (put_at_end self.old.selection self.old.last) sink.old }
         ensures read { IfOk result (λ done. done.read ≡ self.old.counts.read) }
-        ensures written { IfOk result (λ done. CountsMore (put_at_end self.old.selection self.old.held)
+        ensures written { IfOk result (λ done. CountsMore (put_at_end self.old.selection self.old.last)
             self.old.counts.written done.written) }
         ensures compared { IfOk result (λ done. done.compared ≡ compared) }
-        ensures file { EndsFile W.Output (put_at_end self.old.selection self.old.held)
+        ensures file { EndsFile W.Output (put_at_end self.old.selection self.old.last)
             sink.old out.old out.new result }
         ensures good { OnOk result (IsGoodThroughout (change_of W.Output out.old out.new)) }
         ensures ended { OnOk result (sink.new.ended ≡ true) }
@@ -209,9 +211,9 @@ impl Pending {
 
 /// The version that is pending.
 #[inline(always)]
-fn version_of(held: &Option<Ranked>) -> Option<&Version> {
-    match held {
-        Some(held) => Some(held.version()),
+fn version_of(last: &Option<Ranked>) -> Option<&Version> {
+    match last {
+        Some(last) => Some(last.version()),
         None => None,
     }
 }
@@ -225,27 +227,23 @@ fn relation(before: Option<&Version>, version: &Version) -> Relation {
     }
 }
 
-/// Puts a version, if it stays, and counts it.
+/// Puts a version, and counts it.
 #[inline(always)]
-fn put_if<W: Output>(
-    stays: bool,
+fn put<W: Output>(
     version: &Version,
     counts: &mut Counts,
     sink: &mut Sink,
     out: &mut W,
 ) -> Result<(), Fault>
     requires open { IsOpen sink.old }
-    requires takes { TakesEach (singleton_if stays version.now) sink.old }
-    ensures puts { PutsMore W.Output (singleton_if stays version.now) sink.old sink.new out.old out.new result }
+    requires takes { TakesEach (version.now ∷ []) sink.old }
+    ensures puts { PutsMore W.Output (version.now ∷ []) sink.old sink.new out.old out.new result }
     ensures lasts { FailingLasts (change_of W.Output out.old out.new) }
     ensures open { OnOk result (IsOpen sink.new) }
     ensures read { counts.new.read ≡ counts.old.read }
-    ensures written { OnOk result (CountsMore (singleton_if stays version.now) counts.old.written counts.new.written) }
+    ensures written { OnOk result (CountsMore (version.now ∷ []) counts.old.written counts.new.written) }
     ensures compared { counts.new.compared ≡ counts.old.compared }
 {
-    if !stays {
-        return Ok(());
-    }
     let put = sink.put(out, version);
     if put.is_ok() {
         counts.written = counts.written.saturating_add(1);

@@ -26,7 +26,7 @@ pub(crate) struct Tournament {
     heads: Vec<MergeHead>,
     /// The indices of the sources and the winners of the games, in the layout of the module `tree`.
     nodes: Vec<usize>,
-    /// The known equal heads.
+    /// Which heads games found equal to others.
     repeats: Repeats,
     /// The comparisons of versions so far, including those with the pending version.
     pub(crate) compared: u64,

@@ -1,17 +1,27 @@
-//! Fleets: mirrors that exchange files.
+//! Fleets: mirrors that exchange files. Its modules are the mirrors, their events, and plans.
 ghost use Rattle.std.specs.Prelude.{◌≡◌, ◌↔◌, ◌<◌, length, map, slice_set, IfOk, IsTrue, MatchResult, OnErr};
 ghost use Rattle.std.specs.List.{All};
 ghost use Rattle.osm_files.specs.Held.{Holds};
 ghost use Rattle.osm_files.specs.Verdict.{held_by};
-ghost use Rattle.osm_mirror.specs.Mirror.{new_mirror, after_taking, WhyNotTaken, WhyNotSpelled};
-ghost use Rattle.osm_mirror.specs.Fleet.{mirror_at, IsShort, IsReplyTo, mirrors_after, Converges};
-ghost use Rattle.osm_mirror.specs.Event.{IsWithin};
+ghost use Rattle.osm_mirror.specs.fleet.Mirror.{new_mirror, after_taking, WhyNotTaken, WhyNotSpelled};
+ghost use Rattle.osm_mirror.specs.fleet.Fleet.{mirror_at, IsShort, IsReplyTo, mirrors_after, Converges};
+ghost use Rattle.osm_mirror.specs.fleet.Event.{IsWithin};
 
-use crate::event::{Event, Reply};
-use crate::keep::Keep;
-use crate::mirror::Mirror;
+mod event;
+mod keep;
+mod mirror;
+mod plan;
+mod plan_fault;
+mod plan_line;
+
+pub use event::{Event, MirrorEvent, Replies, Reply, Step, events_of};
+pub use keep::{Keep, Taken};
+pub use mirror::Mirror;
 use osm_files::{Fault, Format};
 use osm_model::Memory;
+pub use plan::{Plan, read_plan};
+pub use plan_fault::{PlanFault, PlanReason};
+pub use plan_line::PlanWrite;
 use std::alloc::Global;
 use std::marker::Model;
 
@@ -23,8 +33,8 @@ pub struct Fleet {
 
 impl Model for Fleet {
     ghost use Rattle.std.specs.Prelude.{List};
-    ghost use Rattle.osm_mirror.specs.Mirror.{MirrorData, mirrors_code};
-    ghost use Rattle.osm_mirror.specs.Fleet.{AreOwnSnapshots};
+    ghost use Rattle.osm_mirror.specs.fleet.Mirror.{MirrorData, mirrors_code};
+    ghost use Rattle.osm_mirror.specs.fleet.Fleet.{AreOwnSnapshots};
 
     ghost Value = { List MirrorData };
 
@@ -51,7 +61,7 @@ impl Fleet {
         Ok(Fleet { mirrors })
     }
 
-    /// The number of mirrors.
+    /// The number of mirrors, which never changes.
     pub fn len(&self) -> usize
         ensures { result ≡ length self.now }
     {
@@ -99,7 +109,7 @@ impl Fleet {
         Ok(replies)
     }
 
-    /// Runs one event.
+    /// Runs one event, and returns the reply to it.
     fn reply_to(&mut self, event: &Event) -> Reply
         requires { IsWithin (length self.old) event.now }
         ensures reply { IsReplyTo self.old event.now result }

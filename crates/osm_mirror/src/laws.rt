@@ -1,12 +1,20 @@
-//! Laws of merges, fleets, plans and files that are split. Each is the `ensures` clause of a function with an empty
-//! body, which runs no code.
-ghost use Rattle.osm_mirror.specs.FleetLaws.{LatestMirrorsAgree, FullMirrorsAgree};
-ghost use Rattle.osm_mirror.specs.Merges.{MergesOfTheSameFiles};
-ghost use Rattle.osm_mirror.specs.PlanLaws.{OnePlan, FaultySpellsNothing};
-ghost use Rattle.osm_mirror.specs.ShardRun.{ShardRunsWriteTheRun};
-ghost use Rattle.osm_mirror.specs.Shards.{PartsHoldTheFile, ShardsWriteTheRun};
-ghost use Rattle.osm_mirror.specs.Slices.{SlicesHoldTheFile, SlicesWriteTheRun};
-ghost use Rattle.osm_mirror.specs.SortedRuns.{SortedRunsHoldTheFile, SortedRunsWriteTheFile};
+//! Laws of merges, fleets, plans, files that are split, and inputs that report their bytes. Each is the `ensures`
+//! clause of a function with an empty body, which runs no code.
+//!
+//! The contracts of the jobs are about some bytes that the inputs can give. By the last five laws they are about the
+//! bytes that the inputs report beforehand.
+ghost use Rattle.osm_mirror.specs.fleet.FleetLaws.{LatestMirrorsAgree, FullMirrorsAgree};
+ghost use Rattle.osm_mirror.specs.fleet.Merges.{MergesOfTheSameFiles};
+ghost use Rattle.osm_mirror.specs.fleet.PlanLaws.{OnePlan, FaultySpellsNothing};
+ghost use Rattle.osm_mirror.specs.run.KnownInputs.{KnownIsGiven, MergesOfKnown, JobsOfKnown};
+ghost use Rattle.osm_mirror.specs.run.KnownInputs.{MergesWriteASet, JobsWriteASet};
+ghost use Rattle.osm_mirror.specs.run.KnownInputs.{RefusedMergesHaveBegun, RefusedJobsHaveBegun};
+ghost use Rattle.osm_mirror.specs.run.ShardJob.{ShardJobsWriteTheJob};
+ghost use Rattle.osm_mirror.specs.run.Shards.{ExtentsHoldTheFile, ShardsWriteTheJob};
+ghost use Rattle.osm_mirror.specs.run.Slices.{SlicesHoldTheFile, SlicesWriteTheJob};
+ghost use Rattle.osm_mirror.specs.run.SortedRuns.{SortedRunsHoldTheFile, SortedRunsWriteTheFile};
+
+use osm_files::{Input, Output};
 
 /// Merges of the same files write the same bytes, for any order of the files, any grouping of the merges, any formats,
 /// and any number of repetitions.
@@ -31,7 +39,7 @@ pub fn sorted_runs_hold_the_file()
     ensures { SortedRunsHoldTheFile }
 {}
 
-/// A run over a file in any order writes the same bytes as a run over the files into which that file is split.
+/// A job over a file in any order writes the same bytes as a job over the files into which that file is split.
 pub fn sorted_runs_write_the_file()
     ensures { SortedRunsWriteTheFile }
 {}
@@ -42,21 +50,21 @@ pub fn slices_hold_the_file()
     ensures { SlicesHoldTheFile }
 {}
 
-/// The runs over the slices of the inputs' sets, one run for each span, write the same bytes as one run over the
+/// The jobs over the slices of the inputs' sets, one job for each span, write the same bytes as one job over the
 /// inputs.
-pub fn slices_write_the_run()
-    ensures { SlicesWriteTheRun }
+pub fn slices_write_the_job()
+    ensures { SlicesWriteTheJob }
 {}
 
-/// If the parts of an OPL file between offsets are sorted files, each within its span, the file is sorted, and each
-/// part holds its slice.
-pub fn parts_hold_the_file()
-    ensures { PartsHoldTheFile }
+/// If the extents of an OPL file between offsets are sorted files, each within its span, the file is sorted, and each
+/// extent holds its slice.
+pub fn extents_hold_the_file()
+    ensures { ExtentsHoldTheFile }
 {}
 
-/// The runs over the slices of several files, one run for each span, write the same bytes as one run over the files.
-pub fn shards_write_the_run()
-    ensures { ShardsWriteTheRun }
+/// The jobs over the slices of several files, one job for each span, write the same bytes as one job over the files.
+pub fn shards_write_the_job()
+    ensures { ShardsWriteTheJob }
 {}
 
 /// A text spells at most one plan.
@@ -69,7 +77,37 @@ pub fn faulty_spells_nothing()
     ensures { FaultySpellsNothing }
 {}
 
-/// The runs for all shards of an output write, in sequence, the same bytes as one run over the files.
-pub fn shard_runs_write_the_run()
-    ensures { ShardRunsWriteTheRun }
+/// The jobs for all shards of an output write, in sequence, the same bytes as one job over the files.
+pub fn shard_jobs_write_the_job()
+    ensures { ShardJobsWriteTheJob }
+{}
+
+/// Inputs that report their bytes can give nothing else. So a property of some bytes that they can give is a property
+/// of the bytes that they report.
+pub fn known_is_given<R: Input>(inputs: &[R])
+    ensures { KnownIsGiven R.can_give inputs.now }
+{}
+
+/// The clauses `merged` and `refused` of [`run_merge`](crate::run_merge) hold of the bytes that the inputs report. If
+/// the merge succeeds, each input that reports its bytes is a sorted file.
+pub fn merges_of_known<R: Input, W: Output>(_inputs: &[R], _out: &W)
+    ensures { MergesOfKnown R.can_give W.Output }
+{}
+
+/// The clauses `written` and `refused` of [`run_selected`](crate::run_selected) hold of the bytes that the inputs
+/// report. If the job succeeds, each input that reports its bytes is a file, and sorted if it is read as `Sorted`.
+pub fn jobs_of_known<R: Input, W: Output>(_inputs: &[R], _out: &W)
+    ensures { JobsOfKnown R.can_give W.Output }
+{}
+
+/// A merge that succeeds, or a job, wrote the file of a set, whatever its inputs report.
+pub fn jobs_write_a_set<W: Output>(_out: &W)
+    ensures merges { MergesWriteASet W.Output }
+    ensures runs { JobsWriteASet W.Output }
+{}
+
+/// A merge that is refused, or a job, wrote a front of the file that it would have written.
+pub fn refused_jobs_have_begun<W: Output>(_out: &W)
+    ensures merges { RefusedMergesHaveBegun W.Output }
+    ensures runs { RefusedJobsHaveBegun W.Output }
 {}

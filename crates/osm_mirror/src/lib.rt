@@ -1,76 +1,29 @@
-//! The runs over whole files of OpenStreetMap histories, and mirrors that take and pass such files.
+//! The jobs over whole files of OpenStreetMap histories, and mirrors that take and pass such files.
 #![tactic(auto)]
 
-mod bounds;
-mod check;
-mod checked;
-mod cut;
-mod event;
-mod explanation;
-mod fault_line;
-mod faulty_line;
-mod file_way;
-mod files_run;
-mod files_turn;
 mod fleet;
-mod foreign;
-mod held;
-mod input;
-mod keep;
-pub mod known_inputs;
 pub mod laws;
-mod lines_from;
-mod merge;
-mod mirror;
-mod moment;
-mod names;
-mod plan;
-mod plan_fault;
-mod plan_line;
-mod probe;
-mod request;
-mod retried;
+mod report;
 mod run;
-mod run_summary;
-mod shard;
-mod shard_part;
-mod shard_run;
-mod shown;
-mod slice;
-mod source;
-mod tally;
 
-pub use check::{CheckReport, Checked, run_check, run_check_sorted, run_tally, run_tally_sorted};
-pub use checked::{CheckedFile, CheckedJson, RefusedJson};
-pub use cut::cut_offset;
-pub use event::{Event, MirrorEvent, Replies, Reply, Step, events_of};
-pub use explanation::{Explanation, REASONS};
-pub use fault_line::fault_text;
-pub use faulty_line::FaultyLine;
-pub use files_run::{FilesRun, Order, RunFile, run_files};
-pub use fleet::Fleet;
-pub use foreign::{CUT, Content, Conversion, content_of};
-pub use held::{run_apply, run_period_filter, run_sort, run_time_filter};
-pub use input::{InputFile, ReadAs};
-pub use keep::{Keep, Taken};
-pub use merge::run_merge;
-pub use mirror::Mirror;
-pub use moment::read_moment;
-pub use names::{NamesFault, read_names};
+pub use fleet::{
+    Event, Fleet, Keep, Mirror, MirrorEvent, Plan, PlanFault, PlanReason, PlanWrite, Replies,
+    Reply, Step, Taken, events_of, read_plan,
+};
 pub use osm_merge::{Counts, NoProgress, Object, Outside, Progress, Relation, Selection, Span};
 pub use osm_model::{Kind, Memory, Version};
-pub use plan::{Plan, read_plan};
-pub use plan_fault::{PlanFault, PlanReason};
-pub use plan_line::PlanWrite;
-pub use request::{Command, FileEnd, FileRequest, RequestFault};
-pub use retried::{read_retried, write_retried};
-pub use run::run_selected;
-pub use run_summary::{RunSummary, RunTally};
-pub use shard::Shard;
-pub use shard_run::{ShardRun, run_shard};
-pub use shown::{Escaped, EscapedBytes, EscapedOut, JsonText, Quoted};
-pub use slice::{Slice, SliceFile, run_slice};
-pub use tally::Tally;
+pub use report::{
+    BytesRead, CUT, CheckedFile, CheckedJson, Content, Conversion, Escaped, EscapedBytes,
+    EscapedOut, Explanation, FaultyLine, JobSummary, JobTally, JsonText, Quoted, REASONS,
+    RefusedJson, content_of, fault_text, is_report_due,
+};
+pub use run::{
+    CheckReport, Checked, Command, FileEnd, FileRequest, FilesJob, InputFile, JobFile, NamesFault,
+    Order, ReadAs, RequestFault, Shard, ShardJob, Slice, SliceFile, Tally, cut_offset, read_moment,
+    read_names, read_retried, run_apply, run_check, run_check_sorted, run_files, run_merge,
+    run_period_filter, run_selected, run_shard, run_slice, run_sort, run_tally, run_tally_sorted,
+    run_time_filter, write_retried,
+};
 
 #[cfg(test)]
 mod tests;

@@ -1,17 +1,51 @@
-//! The one run over files, which writes the selection of the union of their sets as one file.
+//! The one job over files, which writes the selection of the union of their sets as one file. Its modules are its
+//! inputs, the jobs of the commands, slices and shards, and the check of a file.
 ghost use Rattle.std.specs.Prelude.{IfOk, IfErr, OnOk};
 ghost use Rattle.osm_files.specs.Output.{IsGoodThroughout};
 ghost use Rattle.osm_files.specs.Change.{change_of};
 ghost use Rattle.osm_merge.specs.Giving.{SomeInputsGive};
 ghost use Rattle.osm_merge.specs.Merged.{Grows};
-ghost use Rattle.osm_mirror.specs.Given.{FileGives};
-ghost use Rattle.osm_mirror.specs.SelectedRun.{IsRun, RefusesRun};
+ghost use Rattle.osm_mirror.specs.run.Given.{InputFileCanGive};
+ghost use Rattle.osm_mirror.specs.run.SelectedJob.{IsJob, RefusesJob};
 
-use crate::input::InputFile;
-use crate::source::open_inputs;
+mod any_order;
+mod bounds;
+mod check;
+mod cut;
+mod file_way;
+mod files_job;
+mod files_turn;
+mod input;
+mod lines_from;
+mod merge;
+mod names;
+mod probe;
+mod request;
+mod retried;
+mod shard;
+mod shard_extent;
+mod shard_job;
+mod slice;
+mod source;
+mod tally;
+
+use crate::run::source::open_inputs;
+pub use any_order::{run_apply, run_period_filter, run_sort, run_time_filter};
+pub use check::{CheckReport, Checked, run_check, run_check_sorted, run_tally, run_tally_sorted};
+pub use cut::cut_offset;
+pub use files_job::{FilesJob, JobFile, Order, run_files};
+pub use input::{InputFile, ReadAs};
+pub use merge::run_merge;
+pub use names::{NamesFault, read_names};
 use osm_files::{Fault, Format, Input, Output, Sink};
 use osm_merge::{Counts, Progress, Selection, merge_selected};
+pub use request::{Command, FileEnd, FileRequest, RequestFault, read_moment};
+pub use retried::{read_retried, write_retried};
+pub use shard::Shard;
+pub use shard_job::{ShardJob, run_shard};
+pub use slice::{Slice, SliceFile, run_slice};
 use std::alloc::Global;
+pub use tally::Tally;
 
 /// Appends the one file of the format `format` that holds the selection of the versions of all inputs, each once.
 ///
@@ -20,7 +54,7 @@ use std::alloc::Global;
 /// only the versions within its span count; a whole file is read only up to the span's upper bound.
 ///
 /// Each input of any order is read to its end before anything is written. The others are read in parallel, one key at a
-/// time. `progress` observes the run, and changes nothing.
+/// time. `progress` observes the job, and changes nothing.
 ///
 /// # Errors
 ///
@@ -38,10 +72,10 @@ pub fn run_selected<R: Input + Drop, W: Output, P: Progress>(
     out: &mut W,
     progress: &mut P,
 ) -> Result<Counts, Fault>
-    ensures written { IfOk result (λ counts. SomeInputsGive (FileGives R.can_give) inputs.items (λ all.
-        IsRun selection all format (change_of W.Output out.old out.new) counts)) }
-    ensures refused { IfErr result (λ fault. SomeInputsGive (FileGives R.can_give) inputs.items (λ all.
-        RefusesRun W.Output selection all format out.old out.new fault)) }
+    ensures written { IfOk result (λ counts. SomeInputsGive (InputFileCanGive R.can_give) inputs.items (λ all.
+        IsJob selection all format (change_of W.Output out.old out.new) counts)) }
+    ensures refused { IfErr result (λ fault. SomeInputsGive (InputFileCanGive R.can_give) inputs.items (λ all.
+        RefusesJob W.Output selection all format out.old out.new fault)) }
     ensures kept { Grows (change_of W.Output out.old out.new) }
     ensures good { OnOk result (IsGoodThroughout (change_of W.Output out.old out.new)) }
 {

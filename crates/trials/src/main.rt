@@ -1,22 +1,10 @@
-//! Makes one call of the libraries in each run, for tests in which memory is refused or devices fail, and for
-//! measurements.
+//! Makes one call of the libraries in each run, for tests in which memory is refused or devices fail.
 //!
 //! The arguments are a call, such as `load_any`, and the arguments of the call. A file is given as `@NAME`, as
 //! `@NAME:STEP` if a read gives at most STEP bytes, or as `@NAME:STEP:END` if the file fails after END bytes. The
 //! program prints the result of the call.
 //!
-//! `measure` takes a measurement and its amount, and prints the results:
-//!
-//! - `measure versions 200000`: versions compared, and appended as lines, together with a plain copy of the same bytes.
-//! - `measure lines 100`: megabytes of OPL lines, read and written, together with a plain pass over them.
-//! - `measure read-sets 1000000`: nodes read from data sets.
-//! - `measure write-sets 1000000`: nodes, and a fifth as many ways, written as data sets.
-//! - `measure take 1000000`: a file of 10,000 changes taken by mirrors that hold that number of versions, and runs of a
-//!   fleet.
-//! - `measure file map.opl`: a file read in three ways: only its units, through a source, and by `load_any`.
-//!
-//! Without arguments the program takes each measurement with a small amount, and then prints the names of the calls,
-//! one on each line.
+//! Without arguments the program prints the names of the calls, one on each line.
 #![tactic(auto)]
 
 use crate::given::Given;
@@ -28,7 +16,6 @@ use std::io::Write;
 mod device;
 mod given;
 mod made;
-mod measure;
 mod mirrors;
 mod printed;
 mod runs;
@@ -53,13 +40,7 @@ const GROUPS: [&[&str]; 8] = [
 fn main(rt: HostRuntime) -> Result<()> {
     let words: Vec<String> = env::args(&rt)?.skip(1).collect(rt.alloc())?;
     let output = match words.as_slice() {
-        [] => {
-            measure::measure_a_little(&rt)?;
-            names(rt.alloc())?
-        }
-        [call, measurement, amount] if call.as_str() == "measure" => {
-            measure::measure(&rt, measurement.as_str(), amount.as_str())?.into_bytes()
-        }
+        [] => names(rt.alloc())?,
         [call, words @ ..] => run_call(rt.alloc(), call.as_str(), &Given::read(&rt, words)?)?,
     };
     rt.stdout().write_all(&output)?;

@@ -3,6 +3,7 @@ use super::find_runs;
 use crate::extent::FramedExtent;
 use crate::fault::Fault;
 use crate::reason::Reason;
+use crate::source::FileSource;
 use crate::texts::{given_text, push_fault};
 use std::alloc::Global;
 
@@ -33,7 +34,10 @@ fn runs_text(alloc: Global, file: &[u8], first: Option<u64>, most: usize) -> Str
     match find_runs(alloc, &file, 3, size, first, most) {
         Ok(Some(runs)) => {
             for run in &runs {
-                let given = given_text(alloc, 0, FramedExtent::of_run(&file, size, *run));
+                let given = given_text(
+                    alloc,
+                    FileSource::new(alloc, 0, FramedExtent::of_run(&file, size, *run)),
+                );
                 let (start, lacks_header, lacks_end) = (run.start, run.lacks_header, run.lacks_end);
                 let _ = write!(text, "{start} {lacks_header} {lacks_end}\n{given}");
             }
@@ -46,60 +50,62 @@ fn runs_text(alloc: Global, file: &[u8], first: Option<u64>, most: usize) -> Str
     text
 }
 
+/// Files, the most runs that are wanted, and the runs found.
+const RUNS: [(&[u8], usize, &str); 14] = [
+    (b"", 1, "0 false false\nend\nend\nend\n"),
+    (b"", 0, "none\n"),
+    (
+        b"n1 v1 dD\nn2 v1 dD\n",
+        1,
+        "0 false false\nn1 v1 dD c0 t i0 u T x y\nn2 v1 dD c0 t i0 u T x y\nend\nend\nend\n",
+    ),
+    (
+        b"n3 v1 dD\n#\nn2 v1 dD\rn1 v1 dD",
+        3,
+        "0 false false\nn3 v1 dD c0 t i0 u T x y\nend\nend\nend\n\
+        11 false false\nn2 v1 dD c0 t i0 u T x y\nend\nend\nend\n\
+        20 false false\nn1 v1 dD c0 t i0 u T x y\nend\nend\nend\n",
+    ),
+    (b"n3 v1 dD\n#\nn2 v1 dD\rn1 v1 dD", 2, "none\n"),
+    (
+        b"n2 v1 dD\nn1 v1 dD\nn0\n",
+        9,
+        "file 3, byte 18: NoVersion\n",
+    ),
+    (
+        b"n2 v1 dD\nn3 v1\nn1 v1 dD\n",
+        9,
+        "0 false false\nfile 0, byte 9: NoLocation\nfile 0, byte 0: Failed\nfile 0, byte 0: Failed\n\
+        15 false false\nn1 v1 dD c0 t i0 u T x y\nend\nend\nend\n",
+    ),
+    (
+        b"n3 v1\r\nn2 dD v1\r\nn2 v1 u\xff",
+        9,
+        "0 false false\nfile 0, byte 0: NoLocation\nfile 0, byte 0: Failed\nfile 0, byte 0: Failed\n\
+        7 false false\nfile 0, byte 10: NotUtf8\nfile 0, byte 0: Failed\nfile 0, byte 0: Failed\n",
+    ),
+    (
+        DATA_SETS,
+        2,
+        "0 false true\nn2 v1 dV c0 t i0 u T x0.0000001 y0.0000002\nend\nend\nend\n\
+        15 true false\nn1 v1 dV c0 t i0 u T x0.0000001 y0.0000002\nend\nend\nend\n",
+    ),
+    (DATA_SETS, 1, "none\n"),
+    (WITHOUT_RESET, 9, "none\n"),
+    (WITHIN_A_SET, 9, "none\n"),
+    (
+        FAULTY_SET,
+        2,
+        "0 false true\nfile 0, byte 7: BadReference\nfile 0, byte 0: Failed\nfile 0, byte 0: Failed\n\
+        15 true false\nn1 v1 dV c0 t i0 u T x0.0000001 y0.0000002\nend\nend\nend\n",
+    ),
+    (CUT_SET, 9, "file 3, byte 7: Truncated\n"),
+];
+
 #[test]
 fn runs_are_found(rt: HostRuntime) {
-    let alloc = rt.alloc();
-    for (file, most, text) in [
-        (b"".as_slice(), 1usize, "0 false false\nend\nend\nend\n"),
-        (b"", 0, "none\n"),
-        (
-            b"n1 v1 dD\nn2 v1 dD\n",
-            1,
-            "0 false false\nn1 v1 dD c0 t i0 u T x y\nn2 v1 dD c0 t i0 u T x y\nend\nend\nend\n",
-        ),
-        (
-            b"n3 v1 dD\n#\nn2 v1 dD\rn1 v1 dD",
-            3,
-            "0 false false\nn3 v1 dD c0 t i0 u T x y\nend\nend\nend\n\
-            11 false false\nn2 v1 dD c0 t i0 u T x y\nend\nend\nend\n\
-            20 false false\nn1 v1 dD c0 t i0 u T x y\nend\nend\nend\n",
-        ),
-        (b"n3 v1 dD\n#\nn2 v1 dD\rn1 v1 dD", 2, "none\n"),
-        (
-            b"n2 v1 dD\nn1 v1 dD\nn0\n",
-            9,
-            "file 3, byte 18: NoVersion\n",
-        ),
-        (
-            b"n2 v1 dD\nn3 v1\nn1 v1 dD\n",
-            9,
-            "0 false false\nfile 0, byte 9: NoLocation\nfile 0, byte 0: Failed\nfile 0, byte 0: Failed\n\
-            15 false false\nn1 v1 dD c0 t i0 u T x y\nend\nend\nend\n",
-        ),
-        (
-            b"n3 v1\r\nn2 dD v1\r\nn2 v1 u\xff",
-            9,
-            "0 false false\nfile 0, byte 0: NoLocation\nfile 0, byte 0: Failed\nfile 0, byte 0: Failed\n\
-            7 false false\nfile 0, byte 10: NotUtf8\nfile 0, byte 0: Failed\nfile 0, byte 0: Failed\n",
-        ),
-        (
-            DATA_SETS,
-            2,
-            "0 false true\nn2 v1 dV c0 t i0 u T x0.0000001 y0.0000002\nend\nend\nend\n\
-            15 true false\nn1 v1 dV c0 t i0 u T x0.0000001 y0.0000002\nend\nend\nend\n",
-        ),
-        (DATA_SETS, 1, "none\n"),
-        (WITHOUT_RESET, 9, "none\n"),
-        (WITHIN_A_SET, 9, "none\n"),
-        (
-            FAULTY_SET,
-            2,
-            "0 false true\nfile 0, byte 7: BadReference\nfile 0, byte 0: Failed\nfile 0, byte 0: Failed\n\
-            15 true false\nn1 v1 dV c0 t i0 u T x0.0000001 y0.0000002\nend\nend\nend\n",
-        ),
-        (CUT_SET, 9, "file 3, byte 7: Truncated\n"),
-    ] {
-        assert_eq!(rt; runs_text(alloc, file, None, most).as_str(), text);
+    for (file, most, text) in RUNS {
+        assert_eq!(rt; runs_text(rt.alloc(), file, None, most).as_str(), text);
     }
 }
 

@@ -2,7 +2,7 @@
 use super::FileSource;
 use crate::input::SliceIn;
 use crate::tests::{NODE_THEN_DELETION, UNSORTED};
-use crate::texts::{given_text, push_fault, push_given, push_source};
+use crate::texts::{given_text, push_fault, push_given};
 use std::alloc::Global;
 
 /// The versions of a source that is opened to learn the file's format, and that format.
@@ -20,10 +20,10 @@ fn opened_text(alloc: Global, file: &[u8]) -> String {
 
 /// The versions of a source that is one of 500 in a merge.
 fn beside_text(alloc: Global, file: &[u8]) -> String {
-    let mut text = String::new(alloc);
-    let opened = FileSource::with_peers(alloc, 2, SliceIn::new(file), 500);
-    push_source(alloc, &mut text, opened);
-    text
+    given_text(
+        alloc,
+        FileSource::with_peers(alloc, 2, SliceIn::new(file), 500),
+    )
 }
 
 /// Files, and what their sources give. A group is sorted and has no repeats. A fault replaces its group. A version that
@@ -61,7 +61,10 @@ const GIVEN: [(&[u8], &str); 7] = [
 fn source_gives_its_versions(rt: HostRuntime) {
     let alloc = rt.alloc();
     for (file, text) in GIVEN {
-        assert_eq!(rt; given_text(alloc, 2, SliceIn::new(file)).as_str(), text);
+        assert_eq!(rt;
+            given_text(alloc, FileSource::new(alloc, 2, SliceIn::new(file))).as_str(),
+            text
+        );
         assert_eq!(rt; beside_text(alloc, file).as_str(), text);
     }
 }

@@ -7,7 +7,7 @@ use super::target::Target;
 use super::{Host, Refusal};
 use osm_files::{Clear, Fault, Reason, ToWrite};
 use osm_mirror::{
-    Counts, NoProgress, RunFile, RunSummary, ShardRun, run_files as run_open_files, run_shard,
+    Counts, JobFile, JobSummary, NoProgress, ShardJob, run_files as run_open_files, run_shard,
 };
 use std::alloc::{AllocError, Global};
 use std::cell::Cell;
@@ -38,7 +38,7 @@ pub(super) fn run_files<'a, I: Read + Drop, O: Write, E: Write + IsTerminal>(
     made.map(|()| run.has_more_o5.get())
 }
 
-/// A run over files, with its request and its reports.
+/// A job over files, with its request and its reports.
 #[derive(Drop)]
 struct Runner<'a, 'q, 'f, 'r, 'e, R, E> {
     rt: &'r R,
@@ -50,7 +50,7 @@ struct Runner<'a, 'q, 'f, 'r, 'e, R, E> {
     has_more_o5: Cell<bool>,
 }
 
-/// The inputs of a run, whose reads the meter watches.
+/// The inputs of a job, whose reads the meter watches.
 type Inputs<'a, 'm, 'e, I, R, E> = Vec<OpenInput<'a, I, &'m Meter<'e, R, E>>>;
 
 impl<'a, 'q, 'f, 'r, 'e, R: Host, E: Write + IsTerminal> Runner<'a, 'q, 'f, 'r, 'e, R, E> {
@@ -95,7 +95,7 @@ impl<'a, 'q, 'f, 'r, 'e, R: Host, E: Write + IsTerminal> Runner<'a, 'q, 'f, 'r, 
         self.meter.end(counted.as_ref().ok());
         let counts = destination.finish(self.rt, counted, self.asked.fsync)?;
         if self.asked.summary {
-            self.meter.print(&RunSummary {
+            self.meter.print(&JobSummary {
                 command: self.asked.command,
                 inputs: inputs.len(),
                 counts,
@@ -108,7 +108,7 @@ impl<'a, 'q, 'f, 'r, 'e, R: Host, E: Write + IsTerminal> Runner<'a, 'q, 'f, 'r, 
     }
 
     /// Writes the selected versions of the inputs, all or those of a shard. When the buffer is dropped, the bytes of a
-    /// refused run go to the writer, too.
+    /// refused job go to the writer, too.
     fn write<I: Read + Drop, W: Clear + Drop, M: Watch>(
         &self,
         inputs: &[OpenInput<'_, I, M>],
@@ -118,27 +118,33 @@ impl<'a, 'q, 'f, 'r, 'e, R: Host, E: Write + IsTerminal> Runner<'a, 'q, 'f, 'r, 
         let Ok(buffer) = BufWriter::with_capacity(alloc, BUFFER, writer) else {
             return Err(Fault::at(0, 0, Reason::Memory));
         };
-        let (run, mut progress) = (self.asked.run, &self.meter);
+        let (job, mut progress) = (self.asked.job, &self.meter);
         let mut output = ToWrite::new(buffer);
         if let Some(shard) = self.asked.shard {
             let files = regular_files(alloc, inputs)?;
-            let run = ShardRun {
+            let shard_job = ShardJob {
                 shard,
-                selection: run.selection,
-                format: run.format,
+                selection: job.selection,
+                format: job.format,
             };
-            return run_shard(alloc, run, files.as_slice(), &mut output, &mut progress);
+            return run_shard(
+                alloc,
+                shard_job,
+                files.as_slice(),
+                &mut output,
+                &mut progress,
+            );
         }
         let files = files_of_run(alloc, inputs)?;
         if self.asked.progress || self.asked.summary {
-            run_open_files(alloc, run, files, &mut output, &mut progress)
+            run_open_files(alloc, job, files, &mut output, &mut progress)
         } else {
-            // A run without reports isn't observed.
-            run_open_files(alloc, run, files, &mut output, &mut NoProgress)
+            // A job without reports isn't observed.
+            run_open_files(alloc, job, files, &mut output, &mut NoProgress)
         }
     }
 
-    /// The outcome of the run, unless a file has changed since it was opened. `error` is the number of a write error.
+    /// The outcome of the job, unless a file has changed since it was opened. `error` is the number of a write error.
     fn unless_changed<I: Read + Drop, M: Watch>(
         &self,
         inputs: &[OpenInput<'a, I, M>],
@@ -159,18 +165,18 @@ impl<'a, 'q, 'f, 'r, 'e, R: Host, E: Write + IsTerminal> Runner<'a, 'q, 'f, 'r, 
     }
 }
 
-/// The inputs as files of a run, which takes the streams.
+/// The inputs as files of a job, which takes the streams.
 fn files_of_run<'f, I: Read + Drop, M: Watch>(
     alloc: Global,
     inputs: &'f [OpenInput<'_, I, M>],
-) -> Result<Vec<RunFile<'f, RegularInput<M>, StreamInput<I, M>>>, AllocError> {
+) -> Result<Vec<JobFile<'f, RegularInput<M>, StreamInput<I, M>>>, AllocError> {
     let mut files = Vec::new(alloc);
     for input in inputs {
         match &input.bytes {
-            InputBytes::Regular(file, _) => files.push(RunFile::File(file))?,
+            InputBytes::Regular(file, _) => files.push(JobFile::File(file))?,
             InputBytes::Stream(stream) => {
                 if let Some(stream) = stream.take() {
-                    files.push(RunFile::Stream(stream))?;
+                    files.push(JobFile::Stream(stream))?;
                 }
             }
         }

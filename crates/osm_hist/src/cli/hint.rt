@@ -131,7 +131,7 @@ fn open_limit(rt: &impl Host) -> Option<u64> {
     line.split_whitespace().nth(3)?.parse().ok()
 }
 
-/// Why OUT.part can't be made: another file has its name, the system refused it with the error `code`, or another run
+/// Why OUT.part can't be made: another file has its name, the system refused it with the error `code`, or another job
 /// has it.
 fn of_uncreated(rt: &impl Host, output: &str, code: Option<i32>) -> Option<String> {
     let alloc = rt.alloc();

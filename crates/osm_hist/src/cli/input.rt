@@ -86,7 +86,7 @@ pub(super) type StreamInput<I, M> = WholeLines<EndMarked<FromRead<Metered<Either
 pub(super) enum InputBytes<I: Read + Drop, M: Watch> {
     /// A regular file, with its stamp of the moment when it was opened.
     Regular(RegularInput<M>, Stamp),
-    /// A stream; none after a run has taken it.
+    /// A stream; none after a job has taken it.
     Stream(Cell<Option<StreamInput<I, M>>>),
 }
 

@@ -1,7 +1,7 @@
-//! OUT.part: the file that a run writes and renames to OUT at the end. It belongs to one run at a time.
+//! OUT.part: the file that a job writes and renames to OUT at the end. It belongs to one job at a time.
 //!
-//! A run holds a lock on its OUT.part. The lock ends with the process, so the next run can remove the file that a
-//! killed run left and make its own.
+//! A job holds a lock on its OUT.part. The lock ends with the process, so the next job can remove the file that a
+//! killed job left and make its own.
 use super::{Host, Refusal};
 use std::alloc::{AllocError, Global};
 use std::fs::{File, Metadata, Permissions, TryLockError};
@@ -12,7 +12,7 @@ use std::{fs, io};
 /// The ending of the name of OUT.part.
 const ENDING: &str = ".part";
 
-/// The number of attempts to get OUT.part while other runs make and rename files of that name.
+/// The number of attempts to get OUT.part while other jobs make and rename files of that name.
 const ATTEMPTS: usize = 16;
 
 /// The bits of a file's mode that permit reading, writing and running it.
@@ -73,7 +73,7 @@ pub(super) fn id_of_regular(rt: &impl Host, name: &str) -> Option<FileId> {
     metadata.is_file().then(|| FileId::of(&metadata))
 }
 
-/// The name of an OUT.part that this run has locked.
+/// The name of an OUT.part that this job has locked.
 #[derive(Drop)]
 pub(super) struct OutPart<'a> {
     /// OUT.
@@ -185,7 +185,7 @@ fn existing(rt: &impl Host, output: &str) -> io::Result<Option<Metadata>> {
 }
 
 /// Locks a file that was just made, and gives it the mode and the owner of `old`, which is OUT. The result is none if
-/// the file lost its name to another run.
+/// the file lost its name to another job.
 fn own(
     rt: &impl Host,
     name: &str,
@@ -209,12 +209,12 @@ fn own(
     outcome.map(|()| Some((file, id)))
 }
 
-/// Whether a file may be used after an attempt to lock it. If the file system has no locks, the run continues without
+/// Whether a file may be used after an attempt to lock it. If the file system has no locks, the job continues without
 /// one.
 ///
 /// # Errors
 ///
-/// `WouldBlock` if another run has the lock.
+/// `WouldBlock` if another job has the lock.
 pub(super) fn unless_locked(attempt: Result<(), TryLockError>) -> io::Result<bool> {
     match attempt {
         Ok(()) => Ok(true),
@@ -245,8 +245,8 @@ fn copy_owner(file: &File, metadata: &Metadata, old: &Metadata) -> bool {
         || fchown(file, None, Some(gid)).is_ok()
 }
 
-/// Removes the regular file that a killed run left, so that OUT.part may be made. Returns false if the file is an
-/// input. It doesn't remove a link, a folder, a device, or a file that another run has locked.
+/// Removes the regular file that a killed job left, so that OUT.part may be made. Returns false if the file is an
+/// input. It doesn't remove a link, a folder, a device, or a file that another job has locked.
 fn remove_leftover(rt: &impl Host, name: &str, inputs: &[Option<FileId>]) -> io::Result<bool> {
     match leftover(rt, name) {
         Ok(file) => {
@@ -267,7 +267,7 @@ fn remove_leftover(rt: &impl Host, name: &str, inputs: &[Option<FileId>]) -> io:
     }
 }
 
-/// Opens the regular file `name`. A killed run may have left a file that nobody is permitted to write.
+/// Opens the regular file `name`. A killed job may have left a file that nobody is permitted to write.
 fn leftover(rt: &impl Host, name: &str) -> io::Result<File> {
     if !fs::symlink_metadata(rt, name)?.is_file() {
         return Err(io::Error::from(ErrorKind::Other));

@@ -1,7 +1,7 @@
-//! Runs of a plan. The mirrors take files and pass on what they hold. At the end the run writes the files of the plan.
+//! Runs of a plan. The mirrors take files and pass on what they hold. At the end the job writes the files of the plan.
 ghost use Rattle.std.specs.Prelude.{◌<◌, length, IfOk};
 ghost use Rattle.std.specs.List.{All};
-ghost use Rattle.osm_mirror.specs.Plan.{NamesItsMirrors};
+ghost use Rattle.osm_mirror.specs.fleet.Plan.{NamesItsMirrors};
 
 use super::files::{open, read};
 use super::part::{id_of_regular, part_name};
@@ -18,12 +18,12 @@ use std::io::{IsTerminal, Write};
 /// refusal of a file that the plan names.
 pub(super) fn run_plan<O: Write, E: Write + IsTerminal>(
     rt: &impl Host,
-    args: &ArgMatches<'_>,
+    matches: &ArgMatches<'_>,
     out: &mut O,
     err: &mut E,
 ) -> u8 {
-    let name = args.get_str("plan").unwrap_or(STANDARD);
-    let (strict, hints) = (args.get_flag("strict"), args.get_flag("hints"));
+    let name = matches.get_str("plan").unwrap_or(STANDARD);
+    let (strict, hints) = (matches.get_flag("strict"), matches.get_flag("hints"));
     let plan = match plan_of(rt, name) {
         Ok(plan) => plan,
         Err(refusal) => return hint::report(rt, &refusal, err, hints),

@@ -1,38 +1,29 @@
-//! Reports on standard error during a run and after it.
+//! Reports on standard error during a job and after it.
 use super::input::Watch;
-use osm_mirror::{Counts, Progress, Relation, RunTally, Version};
+use osm_mirror::{BytesRead, Counts, JobTally, Progress, Relation, Version, is_report_due};
 use std::cell::{Cell, RefCell};
 use std::fmt::Display;
 use std::io::{IsTerminal, Write};
 use std::time::{Clock, Duration};
 
-/// The least time between two reports on a terminal, in milliseconds.
-const INTERVAL: u128 = 500;
-
-/// The least time between two reports elsewhere, in milliseconds.
-const LINE_INTERVAL: u128 = 60_000;
-
 /// Moves a terminal to the start of its line, and clears the line.
 const CLEAR_LINE: &str = "\r\x1b[K";
 
-/// The bytes of a megabyte, MB.
-const MEGABYTE: u64 = 1_000_000;
-
-/// Reports during a run. On a terminal a report overwrites the one before, at most once in half a second. Elsewhere
+/// Reports during a job. On a terminal a report overwrites the one before, at most once in half a second. Elsewhere
 /// each report is a line, at most once a minute.
 #[derive(Drop)]
 pub(super) struct Meter<'a, C, E> {
     clock: &'a C,
     err: RefCell<&'a mut E>,
-    /// Whether reports are wanted during the run.
+    /// Whether reports are wanted during the job.
     is_wanted: bool,
     is_terminal: bool,
     start: Duration,
     last: Cell<Duration>,
-    /// The number of bytes that the run read.
+    /// The number of bytes that the job read.
     bytes: Cell<u64>,
-    /// What the run wrote.
-    pub(super) tally: Cell<RunTally>,
+    /// What the job wrote.
+    pub(super) tally: Cell<JobTally>,
     /// The number of the input whose read failed last.
     failed: Cell<Option<usize>>,
     /// The size of all input files in bytes, if it is known.
@@ -40,7 +31,7 @@ pub(super) struct Meter<'a, C, E> {
 }
 
 impl<'a, C: Clock, E: Write + IsTerminal> Meter<'a, C, E> {
-    /// A meter of a run that begins now.
+    /// A meter of a job that begins now.
     pub(super) fn new(clock: &'a C, err: &'a mut E, is_wanted: bool) -> Meter<'a, C, E> {
         let start = now(clock);
         let is_terminal = err.is_terminal();
@@ -52,7 +43,7 @@ impl<'a, C: Clock, E: Write + IsTerminal> Meter<'a, C, E> {
             start,
             last: Cell::new(start),
             bytes: Cell::new(0),
-            tally: Cell::new(RunTally::new()),
+            tally: Cell::new(JobTally::new()),
             failed: Cell::new(None),
             size: Cell::new(None),
         }
@@ -67,7 +58,7 @@ impl<'a, C: Clock, E: Write + IsTerminal> Meter<'a, C, E> {
         }
     }
 
-    /// Ends the reports. If the run wasn't refused, a last report has its counts.
+    /// Ends the reports. If the job wasn't refused, a last report has its counts.
     pub(super) fn end(&self, counts: Option<&Counts>) {
         if !self.is_wanted {
             return;
@@ -85,17 +76,17 @@ impl<'a, C: Clock, E: Write + IsTerminal> Meter<'a, C, E> {
         self.write("", line, "\n");
     }
 
-    /// The time since the run began, in milliseconds.
+    /// The time since the job began, in milliseconds.
     pub(super) fn milliseconds(&self) -> u128 {
         now(self.clock).saturating_sub(self.start).as_millis()
     }
 }
 
-/// If a run begins anew, its bytes and versions count anew.
+/// If a job begins anew, its bytes and versions count anew.
 impl<'m, 'a, C, E> Progress for &'m Meter<'a, C, E> {
     fn begin(&mut self) {
         self.bytes.set(0);
-        self.tally.set(RunTally::new());
+        self.tally.set(JobTally::new());
     }
 
     #[inline(always)]
@@ -114,7 +105,7 @@ impl<'m, 'a, C, E> Progress for &'m Meter<'a, C, E> {
 }
 
 impl<'m, 'a, C: Clock, E: Write + IsTerminal> Watch for &'m Meter<'a, C, E> {
-    /// Adds `count` to the bytes that the run read, and reports if the interval has passed.
+    /// Adds `count` to the bytes that the job read, and reports if the interval has passed.
     fn count(&self, count: usize) {
         if !self.is_wanted {
             return;
@@ -122,26 +113,18 @@ impl<'m, 'a, C: Clock, E: Write + IsTerminal> Watch for &'m Meter<'a, C, E> {
         let bytes = self.bytes.get().saturating_add(count as u64);
         self.bytes.set(bytes);
         let now = now(self.clock);
-        let (before, after, interval) = if self.is_terminal {
-            (CLEAR_LINE, "", INTERVAL)
-        } else {
-            ("", "\n", LINE_INTERVAL)
-        };
-        if now.saturating_sub(self.last.get()).as_millis() < interval {
+        let since_last = now.saturating_sub(self.last.get());
+        if !is_report_due(self.is_terminal, since_last.as_millis()) {
             return;
         }
         self.last.set(now);
-        let read = bytes / MEGABYTE;
-        let Some(size) = self.size.get() else {
-            return self.write(before, &format_args!("{read} MB"), after);
+        let (before, after) = if self.is_terminal {
+            (CLEAR_LINE, "")
+        } else {
+            ("", "\n")
         };
-        let percent = u128::from(bytes).saturating_mul(100) / u128::from(size).max(1);
-        let all = size / MEGABYTE;
-        self.write(
-            before,
-            &format_args!("{percent} %, {read} of {all} MB"),
-            after,
-        );
+        let size = self.size.get();
+        self.write(before, &BytesRead { bytes, size }, after);
     }
 
     fn failed(&self) -> &Cell<Option<usize>> {
@@ -153,6 +136,3 @@ impl<'m, 'a, C: Clock, E: Write + IsTerminal> Watch for &'m Meter<'a, C, E> {
 fn now<C: Clock>(clock: &C) -> Duration {
     clock.monotonic().unwrap_or(Duration::ZERO)
 }
-
-#[cfg(test)]
-mod tests;

@@ -12,9 +12,9 @@ use thiserror::Error;
 pub(crate) enum Refusal<'a> {
     /// A mistake in the arguments. The text of `clap` has its own line feeds.
     #[error("{0}")]
-    Words(clap::Error),
+    Arguments(clap::Error),
     #[error("the words are not UTF-8: {0}")]
-    WordsNotUtf8(String),
+    ArgumentsNotUtf8(String),
     #[error("a command is missing")]
     NoCommand,
     /// The argument of `--explain` is none of the reasons.
@@ -68,10 +68,10 @@ pub(crate) enum Refusal<'a> {
 
 impl<'a> Refusal<'a> {
     /// The refusal of the arguments by `clap`.
-    pub(crate) fn of_args(error: clap::Error) -> Refusal<'a> {
+    pub(crate) fn of_arguments(error: clap::Error) -> Refusal<'a> {
         match error.kind() {
             ErrorKind::OutOfMemory => Refusal::Memory(AllocError),
-            _ => Refusal::Words(error),
+            _ => Refusal::Arguments(error),
         }
     }
 
@@ -126,7 +126,7 @@ impl<'a> Refusal<'a> {
     pub(crate) fn report<E: Write + IsTerminal>(&self, err: &mut E) -> u8 {
         // If standard error fails, nothing can report it.
         let _ = match self {
-            Refusal::Words(error) => write!(err, "{error}"),
+            Refusal::Arguments(error) => write!(err, "{error}"),
             refusal if err.is_terminal() => {
                 write!(EscapedOut(err), "{refusal}").and_then(|()| writeln!(err))
             }

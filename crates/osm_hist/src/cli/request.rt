@@ -6,14 +6,14 @@ use super::target::{STANDARD, Target};
 use super::{Host, Refusal};
 use clap::ArgMatches;
 use osm_files::Format;
-use osm_mirror::{Command, FileEnd, FileRequest, FilesRun, Shard, read_names};
+use osm_mirror::{Command, FileEnd, FileRequest, FilesJob, Shard, read_names};
 use std::alloc::Global;
 use std::io::Read;
 
 /// The request of a command over files.
 #[derive(Drop)]
 pub(super) struct Request<'a> {
-    /// The run that makes one file from the files, or none if they are checked.
+    /// The job that makes one file from the files, or none if they are checked.
     pub(super) run: Option<FileRun<'a>>,
     /// The files. If a list has their names, there are none until the list is read.
     pub(super) files: InputFiles<'a>,
@@ -21,7 +21,7 @@ pub(super) struct Request<'a> {
     pub(super) list: Option<&'a str>,
     /// Whether each file has to be sorted.
     pub(super) sorted: bool,
-    /// Whether a line on standard error has the tally of each file that is checked, or the work of a run.
+    /// Whether a line on standard error has the tally of each file that is checked, or the work of a job.
     pub(super) summary: bool,
     /// Whether a check prints objects of JSON.
     pub(super) json: bool,
@@ -37,10 +37,10 @@ impl<'a> Request<'a> {
     pub(super) fn of_matches(
         alloc: Global,
         name: &str,
-        args: &ArgMatches<'a>,
+        matches: &ArgMatches<'a>,
     ) -> Result<Request<'a>, Refusal<'a>> {
-        let list = args.get_str(LIST);
-        let names = match args.get_strs("files") {
+        let list = matches.get_str(LIST);
+        let names = match matches.get_strs("files") {
             Some(names) if list.is_none() => Vec::from_slice(alloc, names)?,
             _ => Vec::new(alloc),
         };
@@ -48,16 +48,16 @@ impl<'a> Request<'a> {
         let files = InputFiles {
             names,
             list: None,
-            end: FileEnd::required(args.get_flag("whole"), args.get_flag("ended")),
-            keeps_empty: args.get_str("shard").is_some(),
+            end: FileEnd::required(matches.get_flag("whole"), matches.get_flag("ended")),
+            keeps_empty: matches.get_str("shard").is_some(),
         };
         Ok(Request {
-            run: FileRun::of_matches(name, args)?,
+            run: FileRun::of_matches(name, matches)?,
             files,
             list,
-            sorted: args.get_flag("sorted"),
-            summary: args.get_flag("summary"),
-            json: args.get_flag("json"),
+            sorted: matches.get_flag("sorted"),
+            summary: matches.get_flag("summary"),
+            json: matches.get_flag("json"),
         })
     }
 
@@ -97,13 +97,13 @@ fn refuse_twice<'a>(names: &[&str], is_used: bool) -> Result<(), Refusal<'a>> {
     Ok(())
 }
 
-/// A run that makes one file from files.
+/// A job that makes one file from files.
 #[derive(Drop)]
 pub(super) struct FileRun<'a> {
     pub(super) command: Command,
     pub(super) output: &'a str,
-    /// The run: the versions that are written, the order of the files and the format of the output.
-    pub(super) run: FilesRun,
+    /// The job: the versions that are written, the order of the files and the format of the output.
+    pub(super) job: FilesJob,
     /// The shard of the output that is written, or none if all of it is written.
     pub(super) shard: Option<Shard>,
     /// Whether the output is synced to the disk before it is renamed.
@@ -113,44 +113,49 @@ pub(super) struct FileRun<'a> {
 }
 
 impl<'a> FileRun<'a> {
-    /// The run for which the arguments of the command `name` ask, or none if the command makes no file.
-    fn of_matches(name: &str, args: &ArgMatches<'a>) -> Result<Option<FileRun<'a>>, Refusal<'a>> {
+    /// The job for which the arguments of the command `name` ask, or none if the command makes no file.
+    fn of_matches(
+        name: &str,
+        matches: &ArgMatches<'a>,
+    ) -> Result<Option<FileRun<'a>>, Refusal<'a>> {
         let Some(command) = Command::named(name) else {
             return Ok(None);
         };
-        let run = file_request(command, args).run()?;
-        let shard = match args.get_str("shard") {
+        let job = file_request(command, matches).run()?;
+        let shard = match matches.get_str("shard") {
             Some(shard) => Some(Shard::read(shard).ok_or(Refusal::NotShard { shard })?),
             None => None,
         };
         Ok(Some(FileRun {
             command,
-            output: args.get_str("output").unwrap_or(STANDARD),
-            run,
+            output: matches.get_str("output").unwrap_or(STANDARD),
+            job,
             shard,
-            fsync: args.get_flag("fsync"),
-            progress: args.get_flag("progress"),
-            summary: args.get_flag("summary"),
+            fsync: matches.get_flag("fsync"),
+            progress: matches.get_flag("progress"),
+            summary: matches.get_flag("summary"),
         }))
     }
 }
 
 /// The arguments of `command` that determine what it writes. With a list of files, the first time of `time-filter` is
 /// in the argument `files` and the second in `time`.
-fn file_request<'a>(command: Command, args: &ArgMatches<'a>) -> FileRequest<'a> {
-    let (time, end) = if args.get_str(LIST).is_some() {
+fn file_request<'a>(command: Command, matches: &ArgMatches<'a>) -> FileRequest<'a> {
+    let (time, end) = if matches.get_str(LIST).is_some() {
         ("files", "time")
     } else {
         ("time", "end")
     };
-    let format = args.get_str("format").and_then(|name| Format::named(name));
+    let format = matches
+        .get_str("format")
+        .and_then(|name| Format::named(name));
     FileRequest {
         command,
-        with_history: args.get_flag("with-history"),
-        with_deletions: args.get_flag("with-deletions"),
-        sorted: args.get_flag("sorted"),
-        time: args.get_str(time),
-        end: args.get_str(end),
+        with_history: matches.get_flag("with-history"),
+        with_deletions: matches.get_flag("with-deletions"),
+        sorted: matches.get_flag("sorted"),
+        time: matches.get_str(time),
+        end: matches.get_str(end),
         format: format.unwrap_or(Format::Opl),
     }
 }

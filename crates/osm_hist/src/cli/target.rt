@@ -1,4 +1,4 @@
-//! Targets of a run: a file that the run makes, an existing pipe or device, or standard output.
+//! Targets of a job: a file that the job makes, an existing pipe or device, or standard output.
 ghost use Rattle.std.specs.Prelude.{◌≡◌};
 
 use super::part::{FileId, OutPart, folder_of, is_part};
@@ -13,13 +13,13 @@ use std::{fs, io};
 /// The argument for standard input as an input file, and for standard output as OUT.
 pub(super) const STANDARD: &str = "-";
 
-/// The target of a run.
+/// The target of a job.
 #[derive(Clone, Copy, Debug)]
 pub(super) enum Target<'a> {
-    /// The file of this name. The run writes it as OUT.part and renames it at the end.
+    /// The file of this name. The job writes it as OUT.part and renames it at the end.
     File(&'a str),
-    /// An existing pipe or device, which the run writes as it is, or the regular file to which a name in `/dev` or
-    /// `/proc` leads. Then the run appends to it.
+    /// An existing pipe or device, which the job writes as it is, or the regular file to which a name in `/dev` or
+    /// `/proc` leads. Then the job appends to it.
     Existing { name: &'a str, appends: bool },
     /// Standard output.
     StandardOutput,
@@ -85,7 +85,7 @@ impl<'a> Target<'a> {
         }
     }
 
-    /// Opens the target: an OUT.part that is made for this run, an existing pipe or device, or standard output. None of
+    /// Opens the target: an OUT.part that is made for this job, an existing pipe or device, or standard output. None of
     /// `inputs` may be OUT.part.
     pub(super) fn open<O: Drop>(
         self,
@@ -137,7 +137,7 @@ fn has_descriptors(rt: &impl Host, folder: &str) -> bool {
 /// An open target, whose write errors are noted.
 #[derive(Drop)]
 pub(super) struct Destination<'a, O> {
-    /// OUT.part, which becomes OUT, if the target is a file that the run makes.
+    /// OUT.part, which becomes OUT, if the target is a file that the job makes.
     part: Option<OutPart<'a>>,
     /// The file, the pipe or the device; or else standard output.
     writer: Either<File, O>,
@@ -146,7 +146,7 @@ pub(super) struct Destination<'a, O> {
 }
 
 impl<'a, O> Destination<'a, O> {
-    /// Ends a run with the outcome `written`: OUT.part becomes OUT, or is removed after a refusal.
+    /// Ends a job with the outcome `written`: OUT.part becomes OUT, or is removed after a refusal.
     pub(super) fn finish<T: Drop>(
         &self,
         rt: &impl Host,

@@ -1,8 +1,8 @@
 //! Fleets of mirrors of both kinds, and the snapshots to which they converge.
 use super::Fleet;
-use crate::event::{Event, Reply};
-use crate::keep::Keep;
-use crate::mirror::Mirror;
+use crate::fleet::event::{Event, Reply};
+use crate::fleet::keep::Keep;
+use crate::fleet::mirror::Mirror;
 use osm_files::Format;
 use std::alloc::Global;
 

@@ -4,7 +4,7 @@ use Rattle.osm_model.specs.Pairwise.{Pairwise}
 use Rattle.osm_files.specs.Input.{InputRest}
 use Rattle.osm_files.specs.Recorded.{RecordedData, given_by}
 use Rattle.osm_merge.specs.Giving.{AllGive}
-use Rattle.osm_mirror.specs.Merge.{GivesSorted}
+use Rattle.osm_mirror.specs.run.Merge.{GivesSorted}
 use Rattle.examples.proofs.reads.one_file_of_reads.Goals as goal
 
 -- each input gives what its reads gave

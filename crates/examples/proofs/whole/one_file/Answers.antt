@@ -4,7 +4,7 @@ use Rattle.osm_model.specs.Pairwise.{Pairwise}
 use Rattle.osm_files.specs.Held.{HoldsSorted}
 use Rattle.osm_files.specs.Input.{InputRest, whole_input}
 use Rattle.osm_merge.specs.Giving.{AllGive}
-use Rattle.osm_mirror.specs.Merge.{GivesSorted}
+use Rattle.osm_mirror.specs.run.Merge.{GivesSorted}
 use Rattle.examples.proofs.whole.one_file.Goals as goal
 
 -- an input gives these bytes and then its end

@@ -1,7 +1,7 @@
 use Rattle.std.proofs.Common.{rules, refl, subst, arith, All, IsTrue}
 use Rattle.std.proofs.lemmas.List.{take_all}
-use Rattle.osm_mirror.specs.Event.{IsWithin}
-use Rattle.osm_mirror.proofs.FleetLaws.{within_more}
+use Rattle.osm_mirror.specs.fleet.Event.{IsWithin}
+use Rattle.osm_mirror.proofs.fleet_laws.FleetLaws.{within_more}
 use Rattle.osm_mirror.proofs.fleet.are_within.Goals as goal
 
 pub loop-event-preserved : goal.loop-event-preserved

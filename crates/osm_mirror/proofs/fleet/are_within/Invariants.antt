@@ -1,5 +1,5 @@
 use Rattle.std.proofs.Common.{take, All}
-use Rattle.osm_mirror.specs.Event.{IsWithin}
+use Rattle.osm_mirror.specs.fleet.Event.{IsWithin}
 use Rattle.osm_mirror.proofs.fleet.are_within.Given as goal
 
 abbrev pub invariant-loop-event : goal.invariant-loop-event

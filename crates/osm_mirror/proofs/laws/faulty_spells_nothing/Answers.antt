@@ -1,4 +1,4 @@
-use Rattle.osm_mirror.proofs.PlanTextLaws.{faulty_spells_nothing}
+use Rattle.osm_mirror.proofs.fleet_laws.PlanTextLaws.{faulty_spells_nothing}
 use Rattle.osm_mirror.proofs.laws.faulty_spells_nothing.Goals as goal
 
 pub returns : goal.returns

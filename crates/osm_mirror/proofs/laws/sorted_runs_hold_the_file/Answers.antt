@@ -1,4 +1,4 @@
-use Rattle.osm_mirror.proofs.SortedRunLaws.{sorted_runs_hold_the_file}
+use Rattle.osm_mirror.proofs.run_laws.SortedRunLaws.{sorted_runs_hold_the_file}
 use Rattle.osm_mirror.proofs.laws.sorted_runs_hold_the_file.Goals as goal
 
 pub returns : goal.returns

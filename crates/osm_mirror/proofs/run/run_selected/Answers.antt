@@ -1,7 +1,7 @@
 use Rattle.std.proofs.Common.{rules, ◌≡◌, ◌∙◌, ap, length}
 use Rattle.std.proofs.lemmas.Result.{err_from_is_err_and}
-use Rattle.osm_mirror.proofs.SourceLaws.{no_memory}
-use Rattle.osm_mirror.proofs.RunLaws.{unopened, ran_written, ran_refused}
+use Rattle.osm_mirror.proofs.run_laws.SourceLaws.{no_memory}
+use Rattle.osm_mirror.proofs.run_laws.JobLaws.{unopened, ran_written, ran_refused}
 use Rattle.osm_mirror.proofs.run.run_selected.Goals as goal
 
 pub returns-in_err-sources-clause-refused : goal.returns-in_err-sources-clause-refused

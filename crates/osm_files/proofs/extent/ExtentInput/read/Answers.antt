@@ -1,7 +1,7 @@
 use Rattle.std.proofs.Common.{◌≡◌, ◌+◌, ◌-◌, ◌≤◌, ◌++◌, take, drop, length, arith, sym, ap, subst}
 use Rattle.std.proofs.lemmas.List.{take-append-le, length-take-le, length-take}
 use Rattle.osm_files.specs.Input.{with_front}
-use Rattle.osm_files.specs.Extent.{GivesExtent}
+use Rattle.osm_files.specs.Extent.{ExtentCanGive}
 use Rattle.osm_files.proofs.ExtentLaws.{gave_extent}
 use Rattle.osm_files.proofs.extent.ExtentInput.read.Goals as goal
 
@@ -27,6 +27,6 @@ returns-in-Ok-clause-bytes g c = λ later gives.
     take-append-le count came (drop c.min-most.result c.args.buffer.now) few in (
       with_front (take count came) later,
       gave_extent Fails known extent.next extent.end (take count came) later within c.in-Ok.ensures.bytes
-          (subst (λ n. GivesExtent Fails known (extent.next + n) extent.end later) (sym size) gives),
+          (subst (λ n. ExtentCanGive Fails known (extent.next + n) extent.end later) (sym size) gives),
       ap (λ xs. with_front xs later) (sym same),
     )

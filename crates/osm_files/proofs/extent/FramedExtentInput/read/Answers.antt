@@ -1,6 +1,6 @@
 use Rattle.std.proofs.Common.{◌≡◌, take, [], ◌≤◌, sym, ◌∙◌, leb-true}
 use Rattle.std.proofs.lemmas.Result.{IfOk-weaker}
-use Rattle.osm_files.specs.Extent.{GivesExtent}
+use Rattle.osm_files.specs.Extent.{ExtentCanGive}
 use Rattle.osm_files.proofs.ExtentLaws.{before_read, after_read, after_ended}
 use Rattle.osm_files.proofs.extent.FramedExtentInput.read.Goals as goal
 
@@ -9,7 +9,7 @@ returns-then-not-is_empty-clause-bytes g c =
     let s = c.args.self.now in
     IfOk-weaker c.read.result _ _
     (λ count gave. before_read
-    (GivesExtent (g.F.ReadAt.fails s.extent.file.now) (g.F.ReadAt.bytes s.extent.file.now) s.extent.next s.extent.end) s.before s.after
+    (ExtentCanGive (g.F.ReadAt.fails s.extent.file.now) (g.F.ReadAt.bytes s.extent.file.now) s.extent.next s.extent.end) s.before s.after
     (take count c.read.new.buffer) c.read.new.self gave)
     c.read.ensures.bytes
 

@@ -1,8 +1,8 @@
 use Rattle.std.proofs.Common.{◌≡◌, ◌∙◌, ap, sym, subst, arith, map, take}
 use Rattle.std.proofs.lemmas.List.{take_all}
-use Rattle.osm_mirror.specs.Mirror.{new_mirror}
-use Rattle.osm_mirror.specs.Fleet.{AreOwnSnapshots}
-use Rattle.osm_mirror.proofs.FleetLaws.{all_fresh}
+use Rattle.osm_mirror.specs.fleet.Mirror.{new_mirror}
+use Rattle.osm_mirror.specs.fleet.Fleet.{AreOwnSnapshots}
+use Rattle.osm_mirror.proofs.fleet_laws.FleetLaws.{all_fresh}
 use Rattle.osm_mirror.proofs.fleet.Fleet.new.Goals as goal
 
 pub invariant_of-result : goal.invariant_of-result

@@ -1,9 +1,9 @@
 use Rattle.std.proofs.Common.{◌≡◌, subst, List, MatchResult}
 use Rattle.std.specs.Prelude.{slice_set}
-use Rattle.osm_mirror.specs.Mirror.{MirrorData, after_taking, WhyNotSpelled}
-use Rattle.osm_mirror.specs.Fleet.{mirror_at, IsShort}
-use Rattle.osm_mirror.proofs.FleetLaws.{here}
-use Rattle.osm_mirror.proofs.MirrorLaws.{written_reply, written_after}
+use Rattle.osm_mirror.specs.fleet.Mirror.{MirrorData, after_taking, WhyNotSpelled}
+use Rattle.osm_mirror.specs.fleet.Fleet.{mirror_at, IsShort}
+use Rattle.osm_mirror.proofs.fleet_laws.FleetLaws.{here}
+use Rattle.osm_mirror.proofs.fleet_laws.MirrorLaws.{written_reply, written_after}
 use Rattle.osm_mirror.proofs.fleet.Fleet.pass.Goals as goal
 
 pub returns-clause-reply : goal.returns-clause-reply

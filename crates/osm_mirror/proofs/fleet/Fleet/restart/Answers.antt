@@ -1,10 +1,10 @@
 use Rattle.std.proofs.Common.{◌≡◌, ◌∙◌, ap, subst, List}
 use Rattle.std.specs.Prelude.{slice_set}
 use Rattle.std.proofs.lemmas.Result.{err_from_is_err_and}
-use Rattle.osm_mirror.specs.Mirror.{MirrorData, new_mirror, after_taking, WhyNotSpelled}
-use Rattle.osm_mirror.specs.Fleet.{mirror_at}
-use Rattle.osm_mirror.proofs.FleetLaws.{here}
-use Rattle.osm_mirror.proofs.MirrorLaws.{given_not_taken, restarted}
+use Rattle.osm_mirror.specs.fleet.Mirror.{MirrorData, new_mirror, after_taking, WhyNotSpelled}
+use Rattle.osm_mirror.specs.fleet.Fleet.{mirror_at}
+use Rattle.osm_mirror.proofs.fleet_laws.FleetLaws.{here}
+use Rattle.osm_mirror.proofs.fleet_laws.MirrorLaws.{given_not_taken, restarted}
 use Rattle.osm_mirror.proofs.fleet.Fleet.restart.Goals as goal
 
 pub returns-in_err-take-clause-reply : goal.returns-in_err-take-clause-reply

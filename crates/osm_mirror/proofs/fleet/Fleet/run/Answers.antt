@@ -1,5 +1,5 @@
 use Rattle.std.proofs.Common.{arith}
-use Rattle.osm_mirror.proofs.FleetLaws.{event_within, run_goes_on, run_ends}
+use Rattle.osm_mirror.proofs.fleet_laws.FleetLaws.{event_within, run_goes_on, run_ends}
 use Rattle.osm_mirror.proofs.fleet.Fleet.run.Goals as goal
 
 pub reply_to-reply-requires : goal.reply_to-reply-requires

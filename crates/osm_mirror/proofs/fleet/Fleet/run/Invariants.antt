@@ -1,5 +1,5 @@
 use Rattle.std.proofs.Common.{vec_len, vec_capacity}
-use Rattle.osm_mirror.proofs.FleetLaws.{IsRunning}
+use Rattle.osm_mirror.proofs.fleet_laws.FleetLaws.{IsRunning}
 use Rattle.osm_mirror.proofs.fleet.Fleet.run.Given as goal
 
 abbrev pub invariant-loop-event : goal.invariant-loop-event

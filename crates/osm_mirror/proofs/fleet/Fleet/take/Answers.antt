@@ -1,4 +1,4 @@
-use Rattle.osm_mirror.proofs.FleetLaws.{handed_kept}
+use Rattle.osm_mirror.proofs.fleet_laws.FleetLaws.{handed_kept}
 use Rattle.osm_mirror.proofs.fleet.Fleet.take.Goals as goal
 
 pub invariant_of-self : goal.invariant_of-self

@@ -1,5 +1,0 @@
-use Rattle.osm_mirror.proofs.BoundSearch.{Search}
-use Rattle.osm_mirror.proofs.bounds.bound.Given as goal
-
-abbrev pub invariant-found : goal.invariant-found
-invariant-found l = Search l.number l.count l.found l.index l.before l.below l.last

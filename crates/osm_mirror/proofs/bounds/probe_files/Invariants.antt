@@ -1,6 +1,0 @@
-use Rattle.std.proofs.Common.{take}
-use Rattle.osm_mirror.specs.Probes.{FindsInAll}
-use Rattle.osm_mirror.proofs.bounds.probe_files.Given as goal
-
-abbrev pub invariant-files : goal.invariant-files
-invariant-files g l = FindsInAll (λ file. g.F.ReadAt.bytes file.now) l.step (take l.number l.files) l.found.items

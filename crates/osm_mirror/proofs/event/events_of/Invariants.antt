@@ -1,6 +1,0 @@
-use Rattle.std.specs.List.{All}
-use Rattle.osm_mirror.specs.Event.{IsWithin}
-use Rattle.osm_mirror.proofs.event.events_of.Given as goal
-
-abbrev pub invariant-steps : goal.invariant-steps
-invariant-steps l = All (IsWithin l.mirrors) l.events.items

@@ -1,6 +1,0 @@
-use Rattle.std.proofs.Common.{take}
-use Rattle.osm_mirror.specs.FilesRun.{FilesFit}
-use Rattle.osm_mirror.proofs.file_way.first_ways.Given as goal
-
-abbrev pub invariant-files : goal.invariant-files
-invariant-files g l = FilesFit g.F.ReadAt.bytes l.order (take l.number l.files) l.ways.items

@@ -1,5 +1,0 @@
-use Rattle.std.proofs.Common.{◌≡◌, take}
-use Rattle.osm_mirror.proofs.files_run.copies.Given as goal
-
-abbrev pub invariant-files : goal.invariant-files
-invariant-files g l = l.copies.items ≡ take l.file-index l.files

@@ -1,0 +1,6 @@
+mod FleetLaws
+mod AgreeLaws
+mod MirrorLaws
+mod PlanLineLaws
+mod PlanTextLaws
+mod MergesLaws

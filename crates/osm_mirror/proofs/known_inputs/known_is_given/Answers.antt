@@ -1,5 +1,0 @@
-use Rattle.osm_mirror.proofs.KnownLaws.{known_given}
-use Rattle.osm_mirror.proofs.known_inputs.known_is_given.Goals as goal
-
-pub returns : goal.returns
-returns g c = known_given g.R.Input.can_give c.args.inputs.now

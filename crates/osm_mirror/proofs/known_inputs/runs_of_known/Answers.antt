@@ -1,5 +1,0 @@
-use Rattle.osm_mirror.proofs.KnownLaws.{runs_known}
-use Rattle.osm_mirror.proofs.known_inputs.runs_of_known.Goals as goal
-
-pub returns : goal.returns
-returns g c = runs_known g.R.Input.can_give g.W.Output

@@ -1,5 +1,0 @@
-use Rattle.osm_mirror.proofs.ShardRunLaws.{shard_runs_write_the_run}
-use Rattle.osm_mirror.proofs.laws.shard_runs_write_the_run.Goals as goal
-
-pub returns : goal.returns
-returns c = shard_runs_write_the_run

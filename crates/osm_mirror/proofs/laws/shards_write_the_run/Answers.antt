@@ -1,5 +1,0 @@
-use Rattle.osm_mirror.proofs.ShardLaws.{shards_write_the_run}
-use Rattle.osm_mirror.proofs.laws.shards_write_the_run.Goals as goal
-
-pub returns : goal.returns
-returns c = shards_write_the_run

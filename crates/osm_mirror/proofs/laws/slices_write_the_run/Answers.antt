@@ -1,5 +1,0 @@
-use Rattle.osm_mirror.proofs.SlicedFileLaws.{slices_write_the_run}
-use Rattle.osm_mirror.proofs.laws.slices_write_the_run.Goals as goal
-
-pub returns : goal.returns
-returns c = slices_write_the_run

@@ -1,0 +1,10 @@
+use Rattle.std.proofs.Common.{◌≡◌, length, take}
+use Rattle.osm_mirror.specs.declared.run.file_way.FilesToSplit.TheVariants as to_split
+use Rattle.osm_mirror.specs.declared.run.files_job.Order.TheVariants.{Any}
+use Rattle.osm_mirror.specs.run.FilesRefusal.{AreSettled}
+use Rattle.osm_mirror.specs.run.FilesJob.{FilesFit}
+use Rattle.osm_mirror.proofs.run.file_way.split_files.Given as goal
+
+abbrev pub invariant-files : goal.invariant-files
+invariant-files g l = FilesFit g.F.ReadAt.bytes Any l.files l.ways × (length l.ways ≡ length l.fn.ways)
+    × (l.which ≡ to_split.All → AreSettled (take l.number l.ways))

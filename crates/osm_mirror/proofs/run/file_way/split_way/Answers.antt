@@ -1,0 +1,44 @@
+use Rattle.std.proofs.Common.{arith}
+use Rattle.std.proofs.lemmas.Result.{err_from_is_err_and}
+use Rattle.osm_mirror.specs.declared.run.files_job.Order.TheVariants.{Any}
+use Rattle.osm_mirror.specs.run.FilesJob.{FileFits}
+use Rattle.osm_mirror.proofs.run_laws.FilesJobLaws.{pairwise_length, pairwise_set}
+use Rattle.osm_mirror.proofs.run_laws.WayLaws.{get_slice, first_at, among_files}
+use Rattle.osm_mirror.proofs.run.file_way.split_way.Goals as goal
+
+pub offset_bounds-files-number : goal.offset_bounds-files-number
+offset_bounds-files-number g c =
+    let same = pairwise_length (FileFits g.F.ReadAt.bytes Any) c.args.files.now c.args.ways.now c.requires.fit in
+    omega (arith, c.requires.number, same)
+
+pub bounds-files-number : goal.bounds-files-number
+bounds-files-number g c =
+    let same = pairwise_length (FileFits g.F.ReadAt.bytes Any) c.args.files.now c.args.ways.now c.requires.fit in
+    omega (arith, c.requires.number, same)
+
+pub split_file-requires : goal.split_file-requires
+split_file-requires g c =
+    let files = c.args.files.now in
+    let number = c.args.number in
+    let same = pairwise_length (FileFits g.F.ReadAt.bytes Any) files c.args.ways.now c.requires.fit in
+    let file = c.index-files-number.result in
+    record {
+      first = first_at g.F.ReadAt.bytes files number file c.args.first
+          (get_slice files number file (omega (arith, c.requires.number, same)) c.index-files-number.is) c.requires.first;
+    }
+
+pub returns-in_err-ways-clause-refused : goal.returns-in_err-ways-clause-refused
+returns-in_err-ways-clause-refused g c =
+    let files = c.args.files.now in
+    let same = pairwise_length (FileFits g.F.ReadAt.bytes Any) files c.args.ways.now c.requires.fit in
+    let p = err_from_is_err_and c.from_residual.result c.from_residual.ensures.1 in
+    rw (p.1, p.2)
+    (among_files g.F.ReadAt.fails g.F.ReadAt.bytes g.R.Input.can_give Any files c.args.number c.index-files-number.result
+    c.in_err-ways.field-0.0 (omega (arith, c.requires.number, same)) c.index-files-number.is c.in_err-ways.ensures.refused)
+
+pub returns-clause-fit : goal.returns-clause-fit
+returns-clause-fit g c =
+    let files = c.args.files.now in
+    let same = pairwise_length (FileFits g.F.ReadAt.bytes Any) files c.args.ways.now c.requires.fit in
+    pairwise_set (FileFits g.F.ReadAt.bytes Any) files c.args.ways.now c.args.number c.index-files-number.result c.in_ok-ways.field-0
+    c.requires.fit (omega (arith, c.requires.number, same)) c.index-files-number.is c.in_ok-ways.ensures.fits

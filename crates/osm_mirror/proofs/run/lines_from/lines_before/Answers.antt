@@ -1,0 +1,35 @@
+use Rattle.std.proofs.Common.{◌≡◌, ◌∙◌, arith, ap, sym, subst, Option, Some}
+use Rattle.std.proofs.lemmas.Result.{err_from_is_err_and}
+use Rattle.osm_merge.specs.declared.object.Object.{Object}
+use Rattle.osm_mirror.specs.run.LinesFrom.{AreLinesOf}
+use Rattle.osm_mirror.proofs.run_laws.LinesFromLaws.{object_or, same_lines, more_lines, lines_refuse}
+use Rattle.osm_mirror.proofs.run.lines_from.lines_before.Goals as goal
+
+pub returns-then-start-later-clause-lines : goal.returns-then-start-later-clause-lines
+returns-then-start-later-clause-lines g c =
+    same_lines (g.F.ReadAt.bytes c.args.file.now) c.args.offset c.in_ok-start.start c.args.later c.requires.before c.requires.later
+    c.in_ok-start.ensures.start (omega (arith, c.if-start-later.true))
+
+pub returns-in-Some-clause-lines : goal.returns-in-Some-clause-lines
+returns-in-Some-clause-lines g c =
+    let bytes = g.F.ReadAt.bytes c.args.file.now in
+    let object : object_or c.in_ok-version.field-0 c.args.later.object ≡ Some c.of.result =
+    ap (λ v. object_or v c.args.later.object) c.in-Some.is ∙ ap (λ (o : Object). Some o) (sym c.of.ensures) in
+    subst (λ (o : Option Object). AreLinesOf bytes (record { offset = c.args.offset; start = c.in_ok-start.start; object = o })) object
+    (more_lines (g.F.ReadAt.fails c.args.file.now) bytes c.args.offset c.in_ok-start.start c.args.later c.in_ok-version.field-0
+    c.requires.before c.requires.later c.in_ok-start.ensures.start (omega (arith, c.if-start-later.false)) c.in_ok-version.ensures.first)
+
+pub returns-in-None-clause-lines : goal.returns-in-None-clause-lines
+returns-in-None-clause-lines g c =
+    let bytes = g.F.ReadAt.bytes c.args.file.now in
+    subst (λ (o : Option Object). AreLinesOf bytes (record { offset = c.args.offset; start = c.in_ok-start.start; object = o }))
+    (ap (λ v. object_or v c.args.later.object) c.in-None.is)
+    (more_lines (g.F.ReadAt.fails c.args.file.now) bytes c.args.offset c.in_ok-start.start c.args.later c.in_ok-version.field-0
+    c.requires.before c.requires.later c.in_ok-start.ensures.start (omega (arith, c.if-start-later.false)) c.in_ok-version.ensures.first)
+
+pub returns-in_err-version-clause-refused : goal.returns-in_err-version-clause-refused
+returns-in_err-version-clause-refused g c =
+    let p = err_from_is_err_and c.from_residual-in_err-version.result c.from_residual-in_err-version.ensures.1 in
+    rw (p.1, p.2) (lines_refuse (g.F.ReadAt.fails c.args.file.now) (g.F.ReadAt.bytes c.args.file.now) c.args.offset c.in_ok-start.start
+    c.args.later _ c.requires.before c.requires.later c.in_ok-start.ensures.start (omega (arith, c.if-start-later.false))
+    c.in_err-version.ensures.first)

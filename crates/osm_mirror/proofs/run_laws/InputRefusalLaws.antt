@@ -1,0 +1,77 @@
+-- Why a run is refused: the fault of one of its inputs, which has the number of that input.
+use Rattle.std.proofs.Common.{◌≡◌, ◌⊎◌, inl, inr, ⊎_elim, ℕ, zero, suc, ◌+◌, ◌-◌, ◌<◌, List, [], ◌∷◌, ◌++◌}
+use Rattle.std.proofs.Common.{length, Option, Some, None, sym, ap, ◌∙◌, subst, arith}
+use Rattle.std.proofs.Common.{option_map}
+use Rattle.osm_files.specs.declared.fault.Fault.{Fault}
+use Rattle.osm_files.specs.Input.{InputRest}
+use Rattle.osm_files.specs.Position.{units_from, with_input, fault_of}
+use Rattle.osm_files.specs.SourceLaws.{input_verdict}
+use Rattle.osm_files.specs.Stream.{Verdict}
+use Rattle.osm_files.specs.Verdict.{versions_of}
+use Rattle.osm_files.proofs.HoldLaws.{source_refusal}
+use Rattle.osm_merge.specs.ToCome.{rest_at}
+use Rattle.osm_mirror.specs.declared.run.files_job.Order.{Order}
+use Rattle.osm_mirror.specs.declared.run.files_job.Order.TheVariants.{Sorted, Any}
+use Rattle.osm_mirror.specs.declared.run.input.ReadAs.{ReadAs}
+use Rattle.osm_mirror.specs.declared.run.input.ReadAs.TheVariants as read_as
+use Rattle.osm_mirror.specs.run.FilesJob.{read_as_of}
+use Rattle.osm_mirror.specs.run.Given.{source_of, held_source, whole_or_refused, refusal, CannotBeRead, IsUnread, sources}
+
+-- ---- the faults of inputs
+-- one of these inputs is refused with this fault; the inputs are numbered from `number` on
+abbrev pub SomeRefused : ℕ → List (ReadAs × InputRest) → Fault → Type 0
+SomeRefused number [] fault = ⊥
+SomeRefused number (x ∷ xs) fault = ((source_of number x).refusal ≡ Some fault) ⊎ SomeRefused (number + 1) xs fault
+
+pub refused_at : (number : ℕ) (inputs : List (ReadAs × InputRest)) (place : ℕ) (fault : Fault) → place < length (sources number inputs)
+    → (rest_at (sources number inputs) place).refusal ≡ Some fault → SomeRefused number inputs fault
+refused_at number [] place fault low e = absurd (omega (arith, low))
+refused_at number (x ∷ xs) zero fault low e = inl e
+refused_at number (x ∷ xs) (suc k) fault low e = inr (refused_at (number + 1) xs k fault (omega (arith, low)) e)
+
+cannot_read : (number : ℕ) (x : ReadAs × InputRest) (fault : Fault) → CannotBeRead number x fault
+    → (source_of number x).refusal ≡ Some fault
+unfolding held_source
+cannot_read number (read_as.Sorted, c) fault u = absurd u
+cannot_read number (read_as.Any, c) fault u =
+    ap (λ r. (whole_or_refused r (versions_of (with_input number (units_from None 0 c)).list)).refusal) u
+cannot_read number (read_as.Within span outside, c) fault u = absurd u
+
+pub unread_refused : (number : ℕ) (inputs : List (ReadAs × InputRest)) (fault : Fault) → IsUnread number inputs fault
+    → SomeRefused number inputs fault
+unread_refused number [] fault u = absurd u
+unread_refused number (x ∷ xs) fault (inl one) = inl (cannot_read number x fault one)
+unread_refused number (x ∷ xs) fault (inr more) = inr (unread_refused (number + 1) xs fault more)
+
+-- one of two lists of inputs in sequence
+pub some_of_both : (number : ℕ) (xs ys : List (ReadAs × InputRest)) (fault : Fault) → SomeRefused number (xs ++ ys) fault
+    → SomeRefused number xs fault ⊎ SomeRefused (number + length xs) ys fault
+some_of_both number [] ys fault s =
+    let same : number + 0 ≡ number = omega arith in inr (subst (λ (n : ℕ). SomeRefused n ys fault) (sym same) s)
+some_of_both number (x ∷ xs) ys fault (inl one) = inl (inl one)
+some_of_both number (x ∷ xs) ys fault (inr more) =
+    let same : number + 1 + length xs ≡ number + suc (length xs) = omega arith in
+    ⊎_elim (λ first. inl (inr first)) (λ second. inr (subst (λ (n : ℕ). SomeRefused n ys fault) same second))
+    (some_of_both (number + 1) xs ys fault more)
+
+-- ---- the fault of one input
+held_refused : (r : Option Fault) (versions : _) (fault : Fault) → (whole_or_refused r versions).refusal ≡ Some fault → r ≡ Some fault
+held_refused None versions fault e = absurd (let f : None ≡ Some fault = e in cc)
+held_refused (Some found) versions fault e = e
+
+pub any_refused : (number : ℕ) (c : InputRest) (fault : Fault) → (held_source number c).refusal ≡ Some fault → refusal number c ≡ Some fault
+unfolding held_source
+any_refused number c fault e =
+    let units = with_input number (units_from None 0 c) in held_refused units.refusal (versions_of units.list) fault e
+
+fault_has : (number : ℕ) (v : Option Verdict) (fault : Fault) → option_map (fault_of number) v ≡ Some fault → fault.input ≡ number
+fault_has number None fault e = absurd (let f : None ≡ Some fault = e in cc)
+fault_has number (Some w) fault e =
+    let same : fault_of number w ≡ fault = (let f : Some (fault_of number w) ≡ Some fault = e in cc) in ap (λ f. f.input) (sym same)
+
+-- the fault of an input has its number
+pub has_number : (order : Order) (number : ℕ) (c : InputRest) (fault : Fault)
+    → (source_of number (read_as_of order, c)).refusal ≡ Some fault
+    → fault.input ≡ number
+has_number Sorted number c fault e = fault_has number (input_verdict c) fault (sym (source_refusal number c) ∙ e)
+has_number Any number c fault e = fault_has number (units_from None 0 c).refusal fault (any_refused number c fault e)

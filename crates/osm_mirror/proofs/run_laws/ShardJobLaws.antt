@@ -1,0 +1,205 @@
+-- The runs for all shards of an output write what one run writes.
+use Rattle.std.proofs.Common.{◌≡◌, ◌⊎◌, inl, inr, ⊎_elim, ℕ, zero, suc, ◌+◌, ◌-◌, ◌≤◌, ◌<◌, ◌^◌, true, List, [], ◌∷◌, ◌++◌, length, map}
+use Rattle.std.proofs.Common.{drop, append-nil, slice_get, IfSome, IsTrue}
+use Rattle.std.proofs.Common.{Option, Some, None, refl, sym, ap, ◌∙◌, subst, arith, length-drop, length-append}
+use Rattle.std.specs.Prelude.{pos}
+use Rattle.std.specs.List.{concat}
+use Rattle.std.specs.List.Sorted.{IsSorted}
+use Rattle.std.proofs.lemmas.List.{nil_from_length}
+use Rattle.osm_model.specs.VersionSet.{VersionSet}
+use Rattle.osm_model.specs.Pairwise.{Pairwise}
+use Rattle.osm_model.specs.declared.kind.Kind.TheVariants.{Node}
+use Rattle.osm_files.specs.declared.fault.Fault.{Fault}
+use Rattle.osm_files.specs.declared.format.Format.TheVariants.{Opl}
+use Rattle.osm_files.specs.declared.reason.Reason.TheVariants.{Memory}
+use Rattle.osm_files.specs.Extent.{RunCanGive}
+use Rattle.osm_files.specs.Fault.{memory_fault, fault_at}
+use Rattle.osm_files.specs.Held.{HoldsSorted}
+use Rattle.osm_files.specs.Input.{InputRest}
+use Rattle.osm_files.specs.Load.{StopsOpening}
+use Rattle.osm_files.specs.Output.{Change, Appends}
+use Rattle.osm_files.specs.SortedRun.{whole_run}
+use Rattle.osm_files.specs.Spell.{spell}
+use Rattle.osm_files.proofs.RunBytes.{run_given}
+use Rattle.osm_files.proofs.RunOrderLaws.{Refuses, run_refuses}
+use Rattle.osm_files.proofs.SplitLaws.{whole_file}
+use Rattle.osm_model.specs.Sets.{size}
+use Rattle.osm_merge.specs.declared.merge.Counts.{Counts}
+use Rattle.osm_merge.specs.Union.{capped_count}
+use Rattle.osm_merge.specs.declared.object.Object.{Object}
+use Rattle.osm_merge.specs.declared.object.Span.{Span}
+use Rattle.osm_merge.specs.declared.selection.Selection.{Selection}
+use Rattle.osm_merge.specs.Selected.{selection_of}
+use Rattle.osm_merge.specs.Slice.{object_order, spans}
+use Rattle.osm_mirror.specs.declared.run.check.CheckReport.{CheckReport}
+use Rattle.osm_mirror.specs.declared.run.shard_job.ShardJob.{ShardJob}
+use Rattle.osm_mirror.specs.run.Bounds.{bounds_of, span_at, shard_span}
+use Rattle.osm_mirror.specs.run.Check.{Reports}
+use Rattle.osm_mirror.specs.run.Job.{union_of}
+use Rattle.osm_mirror.specs.run.Slices.{AreSlicesWithin}
+use Rattle.osm_mirror.specs.run.ShardRefusal.{IsFileRefusal, IsFaultOfFile, IsFirstFault, AreRefused}
+use Rattle.osm_mirror.specs.run.ShardJob.{shard_slices, shard_outputs, IsSpanJob, IsShardJob, ShardJobsWriteTheJob}
+use Rattle.osm_mirror.proofs.run_laws.FilesRefusalLaws.{at_is, sorted_fault}
+use Rattle.osm_mirror.proofs.run_laws.ShardSpanLaws.{few_spans, bounds_ascend}
+use Rattle.osm_mirror.proofs.run_laws.SlicedFileLaws.{slices_write_the_job}
+
+-- ---- a shard without a span
+none_twice : (xs : List ℕ) → xs ≡ xs ++ (xs ++ []) → xs ≡ []
+none_twice xs e =
+    let sizes : length xs ≡ length (xs ++ xs) = ap length (e ∙ ap (λ t. xs ++ t) (append-nil xs)) in
+    let both = length-append xs xs in
+    nil_from_length xs (omega (arith, sizes, both))
+
+first_node : Object
+first_node = record { kind = Node; id = pos 0 }
+
+one_bound : IsSorted object_order (first_node ∷ [])
+one_bound = λ k d low within. absurd (omega (arith, within))
+
+-- the OPL file of no sets has no byte
+pub nothing_written : (selection : Selection) → spell Opl (selection_of selection (union_of [])) ≡ []
+nothing_written selection =
+    none_twice (spell Opl (selection_of selection (union_of [])))
+    (slices_write_the_job selection (first_node ∷ []) [] ([] ∷ [] ∷ []) one_bound (refl, (refl, tt)))
+
+-- ---- all shards
+module _ (selection : Selection) (held : List VersionSet) where
+  abbrev text : Option Span → List ℕ
+  text span = spell Opl (selection_of selection (union_of (shard_slices span held)))
+
+  -- the span at an index, and those after it
+  next_span : (ss : List Span) (index : ℕ) → ((span_at ss index ≡ None) × (drop index ss ≡ []) × (drop (suc index) ss ≡ []))
+      ⊎ ((s : Span) × (span_at ss index ≡ Some s) × (drop index ss ≡ s ∷ drop (suc index) ss))
+  next_span [] zero = inl (refl, refl, refl)
+  next_span [] (suc index) = inl (refl, refl, refl)
+  next_span (s ∷ ss) zero = inr (s, refl, refl)
+  next_span (s ∷ ss) (suc index) = next_span ss index
+
+  module _ (count : ℕ) (all : List (List ℕ)) where
+    abbrev whole : List Span
+    whole = spans (bounds_of count all)
+
+    outputs_are : (most index : ℕ) → length whole ≤ index + most →
+        concat (shard_outputs selection count all held most (suc index)) ≡ concat (map (λ span. text (Some span)) (drop index whole))
+    outputs_are zero index few =
+        sym (ap (λ ss. concat (map (λ span. text (Some span)) ss)) (nil_from_length (drop index whole)
+        (omega (arith, few, length-drop index whole))))
+    outputs_are (suc most) index few =
+        let rest : concat (shard_outputs selection count all held most (suc index + 1))
+        ≡ concat (map (λ span. text (Some span)) (drop (suc index) whole)) =
+        (let e : suc index + 1 ≡ suc (suc index) = omega arith in
+        ap (λ n. concat (shard_outputs selection count all held most n)) e ∙ outputs_are most (suc index) (omega (arith, few))) in
+        let place : suc index - 1 ≡ index = omega arith in
+        ap (λ k. text (span_at whole k) ++ concat (shard_outputs selection count all held most (suc index + 1))) place
+        ∙ ⊎_elim
+        (λ (none, here, after).
+        (λ i. text (none i) ++ rest i) ∙ (λ i. nothing_written selection i ++ concat (map (λ span. text (Some span)) (after i)))
+        ∙ sym (ap (λ ss. concat (map (λ span. text (Some span)) ss)) here))
+        (λ (s, one, here).
+        (λ i. text (one i) ++ rest i) ∙ sym (ap (λ ss. concat (map (λ span. text (Some span)) ss)) here))
+        (next_span whole index)
+
+    slices_within : (ss : List Span) → Pairwise (AreSlicesWithin held) ss (map (λ span. shard_slices (Some span) held) ss)
+    slices_within [] = tt
+    slices_within (s ∷ ss) = (refl, slices_within ss)
+
+    map_both : (ss : List Span) → map (λ sliced. spell Opl (selection_of selection (union_of sliced)))
+        (map (λ span. shard_slices (Some span) held) ss) ≡ map (λ span. text (Some span)) ss
+    map_both [] = refl
+    map_both (s ∷ ss) = ap (λ ts. text (Some s) ∷ ts) (map_both ss)
+
+pub shard_jobs_write_the_job : ShardJobsWriteTheJob
+shard_jobs_write_the_job selection count all held some =
+    let ss : List Span = spans (bounds_of count all) in
+    slices_write_the_job selection (bounds_of count all) held (map (λ span. shard_slices (Some span) held) ss) (bounds_ascend count all)
+    (slices_within selection held count all ss)
+    ∙ ap concat (map_both selection held count all ss)
+    ∙ sym (outputs_are selection held count all count 0 (let few = few_spans count all some in omega (arith, few)))
+
+-- ---- the job for one shard
+-- the job for the span of a shard is the job for the shard
+pub shard_is : (job : ShardJob) (all : List (List ℕ)) (held : List VersionSet) (span : Option Span)
+    → span ≡ shard_span job.shard.number job.shard.count all → (change : Change) (counts : Counts)
+    → IsSpanJob job.selection span held job.format change counts → IsShardJob job all held change counts
+shard_is job all held span is change counts done = record {
+  written = subst (λ (s : Option Span). Appends change (spell job.format (selection_of job.selection (union_of (shard_slices s held)))))
+      is done.written;
+  written_count = done.written_count
+      ∙ ap (λ (s : Option Span). capped_count (size (selection_of job.selection (union_of (shard_slices s held))))) is;
+}
+
+-- ---- the first fault of a file
+-- a run over a whole file whose source is refused
+whole_fault : (Fails : Type 0) (known : Option (List ℕ)) (size : ℕ) (c : InputRest) (first : Fault) (r : Fault)
+    → size < 2 ^ 64 → IfSome known (λ all. size ≡ length all) → RunCanGive Fails known whole_run size c → StopsOpening 0 c first
+    → r.place ≡ first.place → r.reason ≡ first.reason → (first.reason ≡ Memory → ⊥) → IsFaultOfFile Fails known r
+whole_fault Fails None size c first r small sized gives stops there same other = inr tt
+whole_fault Fails (Some all) size c first r small sized gives stops there same other =
+    sorted_fault Fails all first r same other 0 there
+    (subst (λ bytes. Refuses Fails 0 bytes first) (whole_file all (omega (arith, small, sized)))
+    (run_refuses Fails all whole_run size 0 first (sym sized) (c, gives, stops)))
+
+-- a whole file whose source is refused has its refusal as its first fault
+pub first_is : (Fails : Type 0) (known : Option (List ℕ)) (size : ℕ) (c : InputRest) (first fault : Fault) → size < 2 ^ 64
+    → IfSome known (λ all. size ≡ length all) → RunCanGive Fails known whole_run size c → StopsOpening 0 c first
+    → IsFirstFault Fails known fault (fault_at fault.input first.place first.reason)
+first_is Fails known size c first fault small sized gives stops =
+    ⊎_elim (λ memory. inl memory)
+    (λ at. inr (inl (
+      at.input_is,
+      whole_fault Fails known size c first (fault_at fault.input first.place first.reason) small sized gives stops at.place_is
+          at.reason_is at.other,
+    )))
+    (at_is fault.input first.place first.reason)
+
+-- a whole file that is accepted is sorted
+pub whole_sorted : (Fails : Type 0) (known : Option (List ℕ)) (size : ℕ) (c : InputRest) (report : CheckReport) → size < 2 ^ 64
+    → IfSome known (λ all. size ≡ length all) → RunCanGive Fails known whole_run size c → Reports c report → report.sorted ≡ true
+    → IfSome known (λ all. (held : VersionSet) × HoldsSorted all held)
+whole_sorted Fails None size c report small sized gives reports is = tt
+whole_sorted Fails (Some all) size c report small sized gives reports is = (
+  reports.held,
+  subst (λ bytes. HoldsSorted bytes reports.held)
+      (run_given Fails all whole_run size c (sym sized) gives reports.file.unbroken ∙ whole_file all (omega (arith, small, sized)))
+      (reports.sorted.0 is),
+)
+
+module _ {F : Type 0} (known : F → Option (List ℕ)) (fails : F → Type 0) where
+  -- a file that is sorted, if its bytes are known, has any fault only if they aren't known
+  settled : (Fails : Type 0) (k : Option (List ℕ)) (fault : Fault) → IfSome k (λ all. (held : VersionSet) × HoldsSorted all held)
+      → IfSome k (λ all. (held : VersionSet) → HoldsSorted all held → ⊥) → IsFaultOfFile Fails k fault
+  settled Fails None fault sorted none = inr tt
+  settled Fails (Some all) fault sorted none = absurd (none sorted.0 sorted.1)
+
+  -- the fault of a file that is sorted as far as its bytes are known
+  same_fault : (files : List F) (file : F) (fault : Fault) → slice_get files fault.input ≡ Some file
+      → IfSome (known file) (λ all. (held : VersionSet) × HoldsSorted all held) → IsFileRefusal (fails file) (known file) fault
+      → AreRefused known fails IsFaultOfFile files fault
+  same_fault files file fault at sorted (inl (inl memory)) = inl memory
+  same_fault files file fault at sorted (inl (inr failed)) = inr (inl (file, at, inl failed))
+  same_fault files file fault at sorted (inr none) = inr (inl (file, at, settled (fails file) (known file) fault sorted none))
+
+  same_named : (files : List F) (file : F) (fault : Fault) → slice_get files fault.input ≡ Some file
+      → IfSome (known file) (λ all. (held : VersionSet) × HoldsSorted all held)
+      → AreRefused known fails IsFileRefusal files fault → AreRefused known fails IsFaultOfFile files fault
+  same_named files file fault at sorted (inl memory) = inl memory
+  same_named files file fault at sorted (inr (inl (one, there, of))) =
+      let is : one ≡ file = (let e : Some one ≡ Some file = sym there ∙ at in cc) in
+      same_fault files file fault at sorted (subst (λ (x : F). IsFileRefusal (fails x) (known x) fault) is of)
+  same_named files file fault at sorted (inr (inr long)) = inr (inr long)
+
+  -- a file that a fault names has its first fault, or stays as it is
+  pub first_named : (files : List F) (file : F) (fault first : Fault) → slice_get files fault.input ≡ Some file
+      → IsFirstFault (fails file) (known file) fault first
+      → AreRefused known fails IsFileRefusal files fault → AreRefused known fails IsFaultOfFile files first
+  first_named files file fault first at (inl memory) refused = inl memory
+  first_named files file fault first at (inr (inl (input, of))) refused = inr (inl (file, ap (slice_get files) input ∙ at, of))
+  first_named files file fault first at (inr (inr (same, sorted))) refused =
+      subst (λ (f : Fault). AreRefused known fails IsFaultOfFile files f) (sym same) (same_named files file fault at sorted refused)
+
+  -- a fault that names no file is the same
+  pub unnamed : (files : List F) (fault : Fault) → slice_get files fault.input ≡ None
+      → AreRefused known fails IsFileRefusal files fault → AreRefused known fails IsFaultOfFile files fault
+  unnamed files fault none (inl memory) = inl memory
+  unnamed files fault none (inr (inl (one, there, of))) = absurd (let e : None ≡ Some one = sym none ∙ there in cc)
+  unnamed files fault none (inr (inr long)) = inr (inr long)

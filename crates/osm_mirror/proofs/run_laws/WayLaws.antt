@@ -1,0 +1,207 @@
+-- The ways of files, and the refusals of files for which there is no way.
+use Rattle.std.proofs.Common.{◌≡◌, ◌⊎◌, inl, inr, ⊎_elim, ℕ, zero, suc, ◌+◌, ◌<◌, ◌≤◌, ◌^◌, Bool, true, false, List, [], ◌∷◌, ◌++◌, length}
+use Rattle.std.proofs.Common.{drop, append-nil, take, set, get_or, slice_get, Option, Some, None, IfSome, refl, sym, ap, ◌∙◌, subst}
+use Rattle.std.proofs.Common.{arith, IsTrue, ◌↔◌, Bor}
+use Rattle.std.specs.List.{All}
+use Rattle.std.proofs.lemmas.Bool.{false≢true}
+use Rattle.std.proofs.lemmas.List.{take_all}
+use Rattle.std.proofs.lemmas.List.Elements.{All-nil, All-cons, All-head, All-tail, All-append}
+use Rattle.osm_files.specs.declared.fault.Fault.{Fault}
+use Rattle.osm_files.specs.declared.sorted_run.SortedRun.{SortedRun}
+use Rattle.osm_files.specs.declared.reason.Reason.TheVariants.{ReadFault}
+use Rattle.osm_files.specs.Fault.{memory_fault, IsOfFile}
+use Rattle.osm_files.specs.FileRuns.{IfWhole, IsAccepted, IsAcceptedRun, IsSortedRun, IsSortedIfAccepted, IsFirstUnsorted, IsRefusalOf}
+use Rattle.osm_files.specs.Input.{InputRest}
+use Rattle.osm_files.specs.SortedRun.{IsSplitIntoRuns, run_bytes, whole_run}
+use Rattle.osm_files.proofs.SplitLaws.{whole_file}
+use Rattle.osm_mirror.specs.declared.run.file_way.FileWay.{FileWay}
+use Rattle.osm_mirror.specs.declared.run.files_job.JobFile.{JobFile}
+use Rattle.osm_mirror.specs.declared.run.files_job.JobFile.TheVariants.{File, Stream}
+use Rattle.osm_mirror.specs.declared.run.files_job.Order.{Order}
+use Rattle.osm_mirror.specs.declared.run.files_job.Order.TheVariants.{Sorted, Any}
+use Rattle.osm_mirror.specs.run.FilesRefusal.{IsSizeFault, IsFirstIn, IsFirstOf, IsFaultOfBytes, IsFaultOf, IsRefusedFile, AreRefused}
+use Rattle.osm_mirror.specs.run.FilesRefusal.{AreSettled}
+use Rattle.osm_mirror.specs.run.FilesJob.{IsWhole, IsReadWhole, IsAsRequired, IsWayOf, FitsBytes, FileFits, FilesFit}
+use Rattle.osm_mirror.proofs.run_laws.FilesJobLaws.{take_more, pairwise_length}
+
+pub get_slice : {X : Type 0} (xs : List X) (k : ℕ) (x : X) → k < length xs → x ≡ get_or xs k x → slice_get xs k ≡ Some x
+get_slice [] k x low is = absurd (omega (arith, low))
+get_slice (y ∷ xs) zero x low is = ap Some (sym is)
+get_slice (y ∷ xs) (suc k) x low is = get_slice xs k x (omega (arith, low)) is
+
+-- ---- refusals
+long_bytes : (order : Order) (all : List ℕ) (fault : Fault) → 2 ^ 62 ≤ length all → IsFaultOfBytes order all fault
+long_bytes Sorted all fault long = inr long
+long_bytes Any all fault long = λ accepted. (let short = accepted.1.short in absurd (omega (arith, short, long)))
+
+module _ {F R : Type 0} (fails : F → Type 0) (bytes : F → Option (List ℕ)) (can : R → InputRest → Type 0) (order : Order) where
+  -- The refusal of one file is one of all files.
+  pub among_files : (files : List (JobFile F R)) (number : ℕ) (file : JobFile F R) (fault : Fault) → number < length files
+      → file ≡ get_or files number file → IsRefusedFile fails bytes can order number file fault
+      → AreRefused fails bytes can order files fault
+  among_files files number file fault low is (inl memory) = inl memory
+  among_files files number file fault low is (inr (at, found)) =
+      inr (file, subst (λ (k : ℕ). slice_get files k ≡ Some file) (sym at) (get_slice files number file low is), found)
+
+  too_long : (known : Option (List ℕ)) (fault : Fault) → IfSome known (λ all. 2 ^ 62 ≤ length all)
+      → IfSome known (λ all. IsFaultOfBytes order all fault)
+  too_long None fault long = tt
+  too_long (Some all) fault long = long_bytes order all fault long
+
+  -- A file whose size isn't known, or that is too long, is refused.
+  pub size_refused : (f : Bor F) (number : ℕ) (fault : Fault) → fault.input ≡ number → IsSizeFault (fails f.now) (bytes f.now) fault
+      → IsRefusedFile fails bytes can order number (File f) fault
+  size_refused f number fault at (inl failed) = inr (at, inl failed)
+  size_refused f number fault at (inr long) = inr (at, inr (too_long (bytes f.now) fault long))
+
+-- The first version out of order of one of the files.
+pub first_at : {F R : Type 0} (bytes : F → Option (List ℕ)) (files : List (JobFile F R)) (number : ℕ) (file : JobFile F R)
+    (first : Option ℕ) → slice_get files number ≡ Some file
+    → IfSome first (λ place. IsFirstOf bytes files (record { file = number; place = place })) → IfSome first (IsFirstIn bytes file)
+first_at bytes files number file None at known = tt
+first_at bytes files number file (Some place) at known = known file at
+
+-- the refusal of a file in which no runs are found
+module _ (Fails : Type 0) (fault : Fault) where
+  known_runs : (known : Option (List ℕ)) (size : ℕ) → IfSome known (λ all. length all ≡ size)
+      → IfWhole known size (λ all. IsRefusalOf Fails all fault)
+      → (fault ≡ memory_fault) ⊎ ((Fails × (fault.reason ≡ ReadFault)) ⊎ IfSome known (λ all. IsFaultOfBytes Any all fault))
+  known_runs None size long refused = inr (inr tt)
+  known_runs (Some all) size long refused =
+      ⊎_elim (λ failure. ⊎_elim (λ memory. inl memory) (λ failed. inr (inl failed)) failure) (λ never. inr (inr never)) (refused long)
+
+module _ {F R : Type 0} (fails : F → Type 0) (bytes : F → Option (List ℕ)) (can : R → InputRest → Type 0) where
+  -- A file in which no runs are found, since it can't be read, is refused.
+  pub runs_refused : (f : Bor F) (number size : ℕ) (fault : Fault) → IfSome (bytes f.now) (λ all. length all ≡ size)
+      → IsOfFile number fault → IfWhole (bytes f.now) size (λ all. IsRefusalOf (fails f.now) all fault)
+      → IsRefusedFile fails bytes can Any number (File f) fault
+  runs_refused f number size fault long (inl memory) refused = inl memory
+  runs_refused f number size fault long (inr at) refused =
+      ⊎_elim (λ memory. inl memory) (λ found. inr (at, found)) (known_runs (fails f.now) fault (bytes f.now) size long refused)
+
+-- ---- ways
+-- a whole file is one run
+pub whole_fits : (known : Option (List ℕ)) (way : FileWay) → way.size < 2 ^ 62 → IfSome known (λ all. length all ≡ way.size) → IsWhole way
+    → FitsBytes known way
+whole_fits None way short long whole = (short, tt)
+whole_fits (Some all) way short long whole = (
+  short,
+  (
+    long,
+    subst (λ (runs : List SortedRun). IsSplitIntoRuns all runs) (sym whole) (sym (whole_file all (omega (arith, short, long)))),
+  ),
+)
+
+-- A file of any order is first read as a sorted one; a sorted one in its order.
+pub first_fits : (order : Order) (known : Option (List ℕ)) (size : ℕ) (is_any : Bool) (way : FileWay) → size < 2 ^ 62
+    → IfSome known (λ all. length all ≡ size) → (IsTrue is_any ↔ (order ≡ Any)) → IsReadWhole Sorted size is_any way
+    → IsWayOf order known way × FitsBytes known way
+first_fits Sorted known size true way short long tests read = absurd (let e : Sorted ≡ Any = tests.0 refl in cc)
+first_fits Sorted known size false way short long tests (whole, o, sized, split) = (
+  inl (whole, o, split),
+  whole_fits known way (omega (arith, short, sized)) (subst (λ (n : ℕ). IfSome known (λ all. length all ≡ n)) (sym sized) long) whole,
+)
+first_fits Any known size true way short long tests (whole, o, sized, split) = (
+  inr (inl (refl, (whole, o, split))),
+  whole_fits known way (omega (arith, short, sized)) (subst (λ (n : ℕ). IfSome known (λ all. length all ≡ n)) (sym sized) long) whole,
+)
+first_fits Any known size false way short long tests read = absurd (let e : false ≡ true = tests.1 refl in false≢true e)
+
+-- A file of any order that is read whole.
+pub held_fits : (known : Option (List ℕ)) (size : ℕ) (way : FileWay) → size < 2 ^ 62 → IfSome known (λ all. length all ≡ size)
+    → IsReadWhole Any size false way → IsWayOf Any known way × FitsBytes known way
+held_fits known size way short long (whole, o, sized, split) = (
+  inl (whole, o, split),
+  whole_fits known way (omega (arith, short, sized)) (subst (λ (n : ℕ). IfSome known (λ all. length all ≡ n)) (sym sized) long) whole,
+)
+
+-- A stream is read in its order.
+pub stream_fits : (order : Order) (way : FileWay) → IsReadWhole order 0 false way → IsAsRequired order way
+stream_fits order way (whole, o, sized, split) = (whole, o, split)
+
+-- The runs that are found in a file.
+pub runs_fit : (known : Option (List ℕ)) (way : FileWay) → way.size < 2 ^ 62 → IfSome known (λ all. length all ≡ way.size)
+    → IfSome known (λ all. length all < 2 ^ 64 → IsSplitIntoRuns all way.runs.items) → FitsBytes known way
+runs_fit None way short long split = (short, tt)
+runs_fit (Some all) way short long split = (short, (long, split (omega (arith, short, long))))
+
+-- runs that have one property, and another one if they have the first
+both_all : (P Q : SortedRun → Type 0) (runs : List SortedRun) → All (λ run. P run → Q run) runs → All P runs → All Q runs
+both_all P Q [] follows has = All-nil Q
+both_all P Q (run ∷ runs) follows has =
+    All-cons Q run runs (All-head (λ run. P run → Q run) run runs follows (All-head P run runs has))
+    (both_all P Q runs (All-tail (λ run. P run → Q run) run runs follows) (All-tail P run runs has))
+
+-- The runs that are found in an accepted file are sorted files.
+pub runs_sorted : (known : Option (List ℕ)) (size : ℕ) (first : Option ℕ) (runs : List SortedRun) → IfSome known (λ all. length all ≡ size)
+    → IfSome first (λ place. IfSome known (λ all. IsAccepted all → IsFirstUnsorted all place))
+    → IfWhole known size (λ all. IfSome first (IsFirstUnsorted all) → All (IsSortedIfAccepted all) runs)
+    → IfWhole known size (λ all. IsAccepted all → All (IsAcceptedRun all) runs)
+    → IfSome known (λ all. IsAccepted all → All (IsSortedRun all) runs)
+runs_sorted None size first runs long right sorted files = tt
+runs_sorted (Some all) size None runs long right sorted files = λ accepted.
+    both_all (IsAcceptedRun all) (IsSortedRun all) runs (sorted long tt) (files long accepted)
+runs_sorted (Some all) size (Some place) runs long right sorted files = λ accepted.
+    both_all (IsAcceptedRun all) (IsSortedRun all) runs (sorted long (right accepted)) (files long accepted)
+
+-- ---- ways that are changed in place
+none_left : {X : Type 0} (xs : List X) (k : ℕ) → length xs ≤ k → drop k xs ≡ []
+none_left [] zero low = refl
+none_left [] (suc k) low = refl
+none_left (x ∷ xs) zero low = absurd (omega (arith, low))
+none_left (x ∷ xs) (suc k) low = none_left xs k (omega (arith, low))
+
+-- a list of which all members were changed
+pub written_back : {X : Type 0} (n : ℕ) (new old : List X) → length new ≡ length old → n ≡ length old
+    → take n (new ++ drop (length new) old) ≡ new
+written_back n new old same is =
+    ap (λ ys. take n (new ++ ys)) (none_left old (length new) (omega (arith, same)))
+    ∙ ap (take n) (append-nil new) ∙ take_all n new (omega (arith, same, is))
+
+module _ {F R : Type 0} (bytes : F → Option (List ℕ)) (files : List (JobFile F R)) where
+  -- The ways of files after all were split that had to be.
+  pub back_fits : (order : Order) (n : ℕ) (new old : List FileWay) → n ≡ length old → order ≡ Any → FilesFit bytes order files old
+      → FilesFit bytes Any files new → FilesFit bytes order files (take n (new ++ drop (length new) old))
+  back_fits order n new old is any before after =
+      let was = pairwise_length (FileFits bytes order) files old before in
+      let now = pairwise_length (FileFits bytes Any) files new after in
+      subst (FilesFit bytes order files) (sym (written_back n new old (omega (arith, was, now)) is))
+      (subst (λ (o : Order). FilesFit bytes o files new) (sym any) after)
+
+  pub back_settled : (n : ℕ) (new old : List FileWay) → n ≡ length old → FilesFit bytes Any files old → FilesFit bytes Any files new
+      → AreSettled new → AreSettled (take n (new ++ drop (length new) old))
+  back_settled n new old is before after settled =
+      let was = pairwise_length (FileFits bytes Any) files old before in
+      let now = pairwise_length (FileFits bytes Any) files new after in
+      subst AreSettled (sym (written_back n new old (omega (arith, was, now)) is)) settled
+
+-- an order that isn't any
+pub not_any : (order : Order) → (order ≡ Any → ⊥) → order ≡ Sorted
+not_any Sorted never = refl
+not_any Any never = absurd (never refl)
+
+-- ---- files that are split one after the other
+take_set : {X : Type 0} (xs : List X) (n : ℕ) (x : X) → n < length xs → take (n + 1) (set xs n x) ≡ take n xs ++ x ∷ []
+take_set [] n x low = absurd (omega (arith, low))
+take_set (y ∷ xs) zero x low = refl
+take_set (y ∷ xs) (suc n) x low =
+    let next : suc n + 1 ≡ suc (n + 1) = omega arith in
+    ap (λ (k : ℕ). take k (y ∷ set xs n x)) next ∙ ap (λ zs. y ∷ zs) (take_set xs n x (omega (arith, low)))
+
+abbrev pub Settled : FileWay → Type 0
+Settled way = way.may_be_split ≡ false
+
+one_more : (ways : List FileWay) (way : FileWay) → AreSettled ways → Settled way → AreSettled (ways ++ way ∷ [])
+one_more ways way settled one = All-append Settled ways (way ∷ []) settled (All-cons Settled way [] one (All-nil Settled))
+
+-- One file more is split.
+pub settled_set : (ways after : List FileWay) (n : ℕ) (way : FileWay) → n < length ways → after ≡ set ways n way → Settled way
+    → AreSettled (take n ways) → AreSettled (take (n + 1) after)
+settled_set ways after n way low is one settled =
+    subst AreSettled (sym (ap (take (n + 1)) is ∙ take_set ways n way low)) (one_more (take n ways) way settled one)
+
+-- One file more isn't split, since it needn't be.
+pub settled_kept : (ways : List FileWay) (n : ℕ) (way : FileWay) → n < length ways → way ≡ get_or ways n way → Settled way
+    → AreSettled (take n ways) → AreSettled (take (n + 1) ways)
+settled_kept ways n way low is one settled =
+    subst AreSettled (sym (take_more ways n way low is)) (one_more (take n ways) way settled one)

@@ -1,5 +1,0 @@
-use Rattle.osm_mirror.specs.Given.{AreOpened}
-use Rattle.osm_mirror.proofs.source.open_inputs.Given as goal
-
-abbrev pub invariant-files : goal.invariant-files
-invariant-files g l = AreOpened g.R.Input.can_give 0 l.yielded l.sources.items

@@ -1,0 +1,9 @@
+pub mod Mirror
+pub mod Event
+pub mod Fleet
+pub mod FleetLaws
+pub mod PlanFault
+pub mod PlanLine
+pub mod Plan
+pub mod PlanLaws
+pub mod Merges

@@ -1,0 +1,149 @@
+-- Why a run over open files and streams is refused: an own rule of this project.
+use Rattle.std.specs.Prelude.{◌≡◌, ◌⊎◌, ℕ, ◌≤◌, ◌^◌, Bool, true, false, List, length, Option, Some, None, slice_get}
+use Rattle.std.specs.Prelude.{IfSome, Result, Ok, Err}
+use Rattle.std.specs.List as list
+use Rattle.osm_model.specs.VersionSet.{VersionSet}
+use Rattle.osm_model.specs.Pairwise.{Pairwise}
+use Rattle.osm_files.specs.declared.fault.Fault.{Fault}
+use Rattle.osm_files.specs.declared.output.Output.{Ghosts}
+use Rattle.osm_files.specs.declared.reason.Reason.TheVariants.{ReadFault, WriteFault, TooLong, Unsorted}
+use Rattle.osm_files.specs.Change.{change_of}
+use Rattle.osm_files.specs.Fault.{memory_fault}
+use Rattle.osm_files.specs.FileRuns.{IsAccepted, IsFirstUnsorted}
+use Rattle.osm_files.specs.Input.{InputRest, GivesOne}
+use Rattle.osm_files.specs.Output.{Change}
+use Rattle.osm_files.specs.Sink.{CutShort}
+use Rattle.osm_files.specs.Spell.{spell}
+use Rattle.osm_files.specs.Stream.{verdict_at}
+use Rattle.osm_files.specs.Verdict.{verdict_sorted}
+use Rattle.osm_merge.specs.declared.merge.Counts.{Counts}
+use Rattle.osm_merge.specs.Selected.{selection_of}
+use Rattle.osm_mirror.specs.declared.run.file_way.FileWay.{FileWay}
+use Rattle.osm_mirror.specs.declared.run.file_way.FilesToSplit.{FilesToSplit}
+use Rattle.osm_mirror.specs.declared.run.file_way.FilesToSplit.TheVariants.{OfFirst, Descending, All}
+use Rattle.osm_mirror.specs.declared.run.file_way.FirstUnsorted.{FirstUnsorted}
+use Rattle.osm_mirror.specs.declared.run.files_job.FilesJob.{FilesJob}
+use Rattle.osm_mirror.specs.declared.run.files_job.JobFile.{JobFile}
+use Rattle.osm_mirror.specs.declared.run.files_job.JobFile.TheVariants.{File, Stream}
+use Rattle.osm_mirror.specs.declared.run.files_job.Order.{Order}
+use Rattle.osm_mirror.specs.declared.run.files_job.Order.TheVariants.{Sorted, Any}
+use Rattle.osm_mirror.specs.run.FilesJob.{HoldsAs, read_as_of}
+use Rattle.osm_mirror.specs.run.Given.{GivesAs, source_of}
+use Rattle.osm_mirror.specs.run.Job.{union_of}
+
+-- The bytes aren't accepted in this order. For bytes that must be sorted the fault is their first one, unless they are
+-- too many.
+abbrev pub IsFaultOfBytes : Order → List ℕ → Fault → Type 0
+IsFaultOfBytes Sorted bytes fault =
+    (verdict_sorted bytes ≡ Some (verdict_at fault.place fault.reason)) ⊎ (2 ^ 62 ≤ length bytes)
+IsFaultOfBytes Any bytes fault = IsAccepted bytes → ⊥
+
+-- the fault is that of the output, whose number is this
+abbrev pub IsOutputFault : ℕ → Fault → Type 0
+IsOutputFault number fault = (fault.input ≡ number) × ((fault.reason ≡ WriteFault) ⊎ (fault.reason ≡ TooLong))
+
+-- no file may be split
+abbrev pub AreSettled : List FileWay → Type 0
+AreSettled ways = list.All (λ way. way.may_be_split ≡ false) ways
+
+-- the file of this number may be split
+abbrev pub MayBeSplit : List FileWay → ℕ → Type 0
+MayBeSplit ways number = (way : FileWay) × (slice_get ways number ≡ Some way) × (way.may_be_split ≡ true)
+
+-- a turn was refused since a file that may be split isn't sorted
+abbrev pub IsUnsortedTurn : Result Counts Fault → List FileWay → Type 0
+IsUnsortedTurn (Ok counts) ways = ⊥
+IsUnsortedTurn (Err fault) ways = (fault.reason ≡ Unsorted) × MayBeSplit ways fault.input
+
+-- the file and the place of a refusal
+abbrev pub first_of : Fault → FirstUnsorted
+first_of fault = record { file = fault.input; place = fault.place }
+
+-- a version is found if a turn was refused for it, because a file that may be split isn't sorted
+abbrev pub IsFirstFound : Result Counts Fault → List FileWay → Option FirstUnsorted → Type 0
+IsFirstFound outcome ways None = IsUnsortedTurn outcome ways → ⊥
+IsFirstFound outcome ways (Some first) =
+    (fault : Fault) × (outcome ≡ Err fault) × IsUnsortedTurn outcome ways × (first ≡ first_of fault)
+
+-- the size of a file with these bytes isn't known, or the file is too long
+abbrev pub IsSizeFault : Type 0 → Option (List ℕ) → Fault → Type 0
+IsSizeFault Fails known fault =
+    (Fails × (fault.reason ≡ ReadFault)) ⊎ IfSome known (λ all. 2 ^ 62 ≤ length all)
+
+module _ {F R : Type 0} (bytes : F → Option (List ℕ)) where
+  -- the version at this place is the first one of the file that is out of order, if the file is accepted in any order
+  abbrev pub IsFirstIn : JobFile F R → ℕ → Type 0
+  IsFirstIn (File f) place = IfSome (bytes f.now) (λ all. IsAccepted all → IsFirstUnsorted all place)
+  IsFirstIn (Stream r) place = ⊥
+
+  -- a version is known to be the first one of its file that is out of order
+  abbrev pub IsFirstOf : List (JobFile F R) → FirstUnsorted → Type 0
+  IsFirstOf files first =
+      (file : JobFile F R) → slice_get files first.file ≡ Some file → IsFirstIn file first.place
+
+  -- if the file of one version is to be split, this is the first one of its file that is out of order
+  abbrev pub IsFirstKnown : List (JobFile F R) → FilesToSplit → Type 0
+  IsFirstKnown files (OfFirst first) = IsFirstOf files first
+  IsFirstKnown files Descending = Unit {0}
+  IsFirstKnown files All = Unit {0}
+
+module _ {F R : Type 0} (fails : F → Type 0) (bytes : F → Option (List ℕ)) (can : R → InputRest → Type 0) where
+  -- The fault is one of this file, which must have this order: a read failed; or the bytes, if they are known, aren't
+  -- accepted. A stream gave something that is refused with this reason at this place.
+  abbrev pub IsFaultOf : Order → JobFile F R → Fault → Type 0
+  IsFaultOf order (File f) fault = (fails f.now × (fault.reason ≡ ReadFault))
+      ⊎ IfSome (bytes f.now) (λ all. IsFaultOfBytes order all fault)
+  IsFaultOf order (Stream r) fault = GivesOne (can r) (λ c. (input : ℕ)
+      × ((source_of input (read_as_of order, c)).refusal ≡ Some (record fault { input = input })))
+
+  -- the fault has the number of one of these files, and is a fault of that file
+  abbrev pub IsFaultAmong : Order → List (JobFile F R) → Fault → Type 0
+  IsFaultAmong order files fault =
+      (file : JobFile F R) × (slice_get files fault.input ≡ Some file) × IsFaultOf order file fault
+
+  -- memory ran out, or the fault is one of this file, which has this number
+  abbrev pub IsRefusedFile : Order → ℕ → JobFile F R → Fault → Type 0
+  IsRefusedFile order number file fault =
+      (fault ≡ memory_fault) ⊎ ((fault.input ≡ number) × IsFaultOf order file fault)
+
+  -- memory ran out, or the fault is one of these files
+  abbrev pub AreRefused : Order → List (JobFile F R) → Fault → Type 0
+  AreRefused order files fault = (fault ≡ memory_fault) ⊎ IsFaultAmong order files fault
+
+  -- A file that no run refuses: no read of it fails, its bytes are known, and they are a file that holds this set, in
+  -- the order that is required. A stream gives such a file, whatever it gives.
+  abbrev pub IsGood : Order → JobFile F R → VersionSet → Type 0
+  IsGood order (File f) held =
+      (fails f.now → ⊥) × ((all : List ℕ) × (bytes f.now ≡ Some all) × HoldsAs order all held)
+  IsGood order (Stream r) held = (c : InputRest) → can r c → GivesAs (read_as_of order, c) held
+
+  -- if each file is good, a front of the one spelling of the selection of the union of the files' sets was appended
+  abbrev pub IsCutIfGood : FilesJob → List (JobFile F R) → Change → Fault → Type 0
+  IsCutIfGood run files change fault = (held : List VersionSet) → Pairwise (IsGood run.order) files held
+      → CutShort (length files) change (spell run.format (selection_of run.selection (union_of held))) fault
+
+  -- Why a job over these files was refused: memory ran out, or one of the files or the output is at fault. If all files
+  -- are good, and nothing that was written may be removed, a front of the file that was to be written was appended.
+  pub record RefusesFilesJob {O : Type 0} (output : Ghosts O) (can_clear : Bool) (job : FilesJob)
+      (files : List (JobFile F R)) (before after : O) (fault : Fault) : Type 0 where
+    pub why : (fault ≡ memory_fault) ⊎ IsFaultAmong job.order files fault ⊎ IsOutputFault (length files) fault
+    pub cut : (job.order ≡ Sorted) ⊎ (can_clear ≡ false)
+        → IsCutIfGood job files (change_of output before after) fault
+
+  -- ---- one turn
+  -- the fault is one of this file; or the file may be split, and its first version out of order is there
+  abbrev pub IsFaultInWay : Order → JobFile F R → FileWay → Fault → Type 0
+  IsFaultInWay order file way fault = IsFaultOf order file fault
+      ⊎ ((way.may_be_split ≡ true) × (fault.reason ≡ Unsorted) × IsFirstIn bytes file fault.place)
+
+  -- the fault has the number of one of these files, and is a fault of that file, which is read in its way
+  abbrev pub IsFaultInWays : Order → List (JobFile F R) → List FileWay → Fault → Type 0
+  IsFaultInWays order files ways fault = (file : JobFile F R) × (way : FileWay)
+      × (slice_get files fault.input ≡ Some file) × (slice_get ways fault.input ≡ Some way)
+      × IsFaultInWay order file way fault
+
+  -- why a turn was refused, as for the job; a file that may be split may be out of order
+  pub record RefusesTurn {O : Type 0} (output : Ghosts O) (job : FilesJob) (files : List (JobFile F R))
+      (ways : List FileWay) (before after : O) (fault : Fault) : Type 0 where
+    pub why : (fault ≡ memory_fault) ⊎ IsFaultInWays job.order files ways fault ⊎ IsOutputFault (length files) fault
+    pub cut : AreSettled ways → IsCutIfGood job files (change_of output before after) fault

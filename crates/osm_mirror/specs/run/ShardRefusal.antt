@@ -1,0 +1,92 @@
+-- Why a run for a shard is refused: an own rule of this project.
+use Rattle.std.specs.Prelude.{◌≡◌, ◌⊎◌, ℕ, ◌<◌, ◌≤◌, ◌^◌, List, length, sum_by, Option, Some}
+use Rattle.std.specs.Prelude.{None, IfSome, slice_get}
+use Rattle.osm_model.specs.Pairwise.{Pairwise}
+use Rattle.osm_model.specs.VersionSet.{VersionSet}
+use Rattle.osm_files.specs.declared.fault.Fault.{Fault}
+use Rattle.osm_files.specs.declared.format.Format.{Format}
+use Rattle.osm_files.specs.declared.output.Output.{Ghosts}
+use Rattle.osm_files.specs.declared.reason.Reason.TheVariants.{ReadFault, TooLong}
+use Rattle.osm_files.specs.Change.{change_of}
+use Rattle.osm_files.specs.Fault.{memory_fault, fault_at}
+use Rattle.osm_files.specs.FileRuns.{IsReadFailure}
+use Rattle.osm_files.specs.Held.{HoldsSorted}
+use Rattle.osm_files.specs.Output.{Change}
+use Rattle.osm_files.specs.Sink.{CutShort}
+use Rattle.osm_files.specs.SortedRun.{offset_in_file}
+use Rattle.osm_files.specs.Spell.{spell}
+use Rattle.osm_merge.specs.declared.object.Span.{Span}
+use Rattle.osm_merge.specs.declared.selection.Selection.{Selection}
+use Rattle.osm_merge.specs.Selected.{selection_of}
+use Rattle.osm_mirror.specs.declared.run.files_job.Order.TheVariants.{Sorted}
+use Rattle.osm_mirror.specs.declared.run.shard_extent.FileExtent.{FileExtent}
+use Rattle.osm_mirror.specs.declared.run.shard_job.ShardJob.{ShardJob}
+use Rattle.osm_mirror.specs.run.Bounds.{opl_size, shard_span}
+use Rattle.osm_mirror.specs.run.FilesRefusal.{IsFaultOfBytes, IsOutputFault}
+use Rattle.osm_mirror.specs.run.Probes.{HaveBytes}
+use Rattle.osm_mirror.specs.run.Job.{union_of}
+use Rattle.osm_mirror.specs.run.ShardJob.{shard_slices}
+
+-- A file is refused because memory ran out or it can't be read; or its bytes, if they are known, aren't a sorted file.
+-- `Fails` holds if reads of the file may fail.
+abbrev pub IsFileRefusal : Type 0 → Option (List ℕ) → Fault → Type 0
+IsFileRefusal Fails known fault = IsReadFailure Fails fault
+    ⊎ IfSome known (λ all. (held : VersionSet) → HoldsSorted all held → ⊥)
+
+-- The fault is one of a file: a read failed; or it is the first fault of the file's bytes as a sorted file, if they are
+-- known.
+abbrev pub IsFaultOfFile : Type 0 → Option (List ℕ) → Fault → Type 0
+IsFaultOfFile Fails known fault = (Fails × (fault.reason ≡ ReadFault))
+    ⊎ IfSome known (λ all. IsFaultOfBytes Sorted all fault)
+
+-- The first fault of a file in place of a fault of it: memory ran out, it is a fault of the file, or the whole file is
+-- sorted as far as its bytes are known, and the fault is the same.
+abbrev pub IsFirstFault : Type 0 → Option (List ℕ) → Fault → Fault → Type 0
+IsFirstFault Fails known fault first = (first ≡ memory_fault)
+    ⊎ ((first.input ≡ fault.input) × IsFaultOfFile Fails known first)
+    ⊎ ((first ≡ fault) × IfSome known (λ all. (held : VersionSet) × HoldsSorted all held))
+
+-- the fault of an input as the fault of its file, if these are the extents that were read of the files
+abbrev pub fault_in_extent : Fault → ℕ → Option FileExtent → Fault
+fault_in_extent fault count None = fault_at count fault.place fault.reason
+fault_in_extent fault count (Some extent) = fault_at fault.input (offset_in_file extent.run fault.place) fault.reason
+
+module _ {F : Type 0} (known : F → Option (List ℕ)) (fails : F → Type 0) where
+  -- the fault has the number of one of these files, and `IsOf` is true for it and this file
+  abbrev pub IsFaultAmong : (Type 0 → Option (List ℕ) → Fault → Type 0) → List F → Fault → Type 0
+  IsFaultAmong IsOf files fault =
+      (file : F) × (slice_get files fault.input ≡ Some file) × IsOf (fails file) (known file) fault
+
+  -- the OPL files among these files together have 2^62 bytes or more, if the bytes of all files are known
+  abbrev pub AreTooLong : List F → Fault → Type 0
+  AreTooLong files fault = (fault.reason ≡ TooLong)
+      × ((all : List (List ℕ)) → HaveBytes known files all → 2 ^ 62 ≤ sum_by opl_size all)
+
+  -- memory ran out, the fault is one of these files, or these files are too long
+  abbrev pub AreRefused : (Type 0 → Option (List ℕ) → Fault → Type 0) → List F → Fault → Type 0
+  AreRefused IsOf files fault = (fault ≡ memory_fault) ⊎ IsFaultAmong IsOf files fault ⊎ AreTooLong files fault
+
+  -- a file that no run refuses has these bytes, and no read of it fails
+  abbrev pub IsGood : F → List ℕ → Type 0
+  IsGood file bytes = (known file ≡ Some bytes) × (fails file → ⊥)
+
+  -- If no file is refused, all of them together aren't too long, and they are sorted, a front of the one spelling of
+  -- what the span has of them was appended. Without a span that is the one spelling of nothing.
+  abbrev pub IsCutIfGood : Selection → Format → (List (List ℕ) → Option Span) → List F → Change → Fault → Type 0
+  IsCutIfGood selection format span files change fault = (all : List (List ℕ)) (held : List VersionSet)
+      → Pairwise IsGood files all → Pairwise HoldsSorted all held → sum_by opl_size all < 2 ^ 62
+      → CutShort (length files) change
+      (spell format (selection_of selection (union_of (shard_slices (span all) held)))) fault
+
+  -- Why a run for a span of these files was refused: memory ran out, or one of the files or the output is at fault.
+  pub record RefusesSpan (IsOf : Type 0 → Option (List ℕ) → Fault → Type 0) (selection : Selection) (format : Format)
+      (span : List (List ℕ) → Option Span) (files : List F) (change : Change) (fault : Fault) : Type 0 where
+    pub why : AreRefused IsOf files fault ⊎ IsOutputFault (length files) fault
+    pub cut : IsCutIfGood selection format span files change fault
+
+  -- Why a run for a shard of these files was refused: memory ran out, or one of the files or the output is at fault. If
+  -- all files are good, a front of the file that was to be written was appended.
+  abbrev pub RefusesShardJob : {O : Type 0} → Ghosts O → ShardJob → List F → O → O → Fault → Type 0
+  RefusesShardJob output run files before after =
+      RefusesSpan IsFaultOfFile run.selection run.format (shard_span run.shard.number run.shard.count) files
+      (change_of output before after)

@@ -1,0 +1,126 @@
+//! Events of mirrors, and the replies of a fleet.
+ghost use Rattle.std.specs.Prelude.{IsTrue, ◌↔◌, ℕ, IfOk};
+ghost use Rattle.std.specs.List.{All};
+ghost use Rattle.osm_mirror.specs.fleet.Event.{IsWithin};
+
+use osm_files::{Fault, Format, Reason};
+use osm_model::Text;
+use std::alloc::{AllocError, Global};
+use std::fmt;
+use std::fmt::{Display, Formatter};
+
+/// An event of mirrors, which are numbered from 0. `F` is a file: its bytes in an [`Event`], its name in a [`Step`].
+#[derive(Clone, Copy, Debug, PartialEq, Eq)]
+pub enum MirrorEvent<F> {
+    /// A mirror takes a file.
+    Take {
+        /// The number of the mirror.
+        mirror: usize,
+        /// The file, of any format.
+        file: F,
+    },
+    /// A mirror takes the file that another one writes, or that it writes itself.
+    Pass {
+        /// The number of the mirror that writes.
+        from: usize,
+        /// The number of the mirror that takes.
+        to: usize,
+        /// The format that is written.
+        format: Format,
+    },
+    /// A new mirror of the same kind takes the file that a mirror writes, and replaces that mirror.
+    Restart {
+        /// The number of the mirror.
+        mirror: usize,
+        /// The format that is written.
+        format: Format,
+    },
+}
+
+/// An event of a fleet. A file is its bytes.
+pub type Event<'a> = MirrorEvent<&'a [u8]>;
+
+/// A step of a plan. A file is its name.
+pub type Step = MirrorEvent<Text>;
+
+impl<F> MirrorEvent<F> {
+    /// Whether all mirrors that the event names have numbers below `mirrors`.
+    pub(crate) fn names_mirrors(&self, mirrors: usize) -> bool
+        ensures { IsTrue result ↔ IsWithin mirrors self.now }
+    {
+        match self {
+            MirrorEvent::Take { mirror, .. } | MirrorEvent::Restart { mirror, .. } => {
+                *mirror < mirrors
+            }
+            MirrorEvent::Pass { from, to, .. } => *from < mirrors && *to < mirrors,
+        }
+    }
+}
+
+/// The events of `steps`, which name some of `mirrors` mirrors, as their events do. `files` has the bytes that each
+/// step takes.
+pub fn events_of<'f>(
+    alloc: Global,
+    mirrors: usize,
+    steps: &[Step],
+    files: &'f [Vec<u8>],
+) -> Result<Vec<Event<'f>>, AllocError>
+    requires { All (IsWithin mirrors) steps.now }
+    ensures { IfOk result (λ events. All (IsWithin mirrors) events.items) }
+{
+    let mut events = Vec::new(alloc);
+    'steps: for (step, file) in steps.iter().zip(files) {
+        events.push(event_of(step, file.as_slice()))?;
+    }
+    Ok(events)
+}
+
+/// The event of `step`. `file` has the bytes that the step takes.
+fn event_of<'f>(step: &Step, file: &'f [u8]) -> Event<'f>
+    ensures { (mirrors : ℕ) → IsWithin mirrors step.now → IsWithin mirrors result }
+{
+    match *step {
+        Step::Take { mirror, .. } => Event::Take { mirror, file },
+        Step::Pass { from, to, format } => Event::Pass { from, to, format },
+        Step::Restart { mirror, format } => Event::Restart { mirror, format },
+    }
+}
+
+/// The reply to an event.
+#[derive(Clone, Copy, Debug, PartialEq, Eq)]
+pub enum Reply {
+    /// The mirror took the file: the event's own, or the one that a mirror wrote.
+    Taken,
+    /// The mirror refused the file, and no mirror was changed. In the fault the input 0 is the file that a mirror
+    /// takes, and the output 1 is the file that a mirror writes.
+    Refused(Fault),
+}
+
+/// The reply as a command prints it: `Taken`, or as `Refused 40 NoEnd`.
+impl Display for Reply {
+    fn fmt<W: fmt::Write>(&self, f: &mut Formatter<W>) -> fmt::Result {
+        match self {
+            Reply::Taken => write!(f, "Taken"),
+            Reply::Refused(fault) => match fault.reason {
+                Reason::Memory => write!(f, "Refused out of memory"),
+                reason => write!(f, "Refused {} {}", fault.place, reason.name()),
+            },
+        }
+    }
+}
+
+/// The replies to events: a line for each, with the number of the event from 1.
+#[derive(Clone, Copy, Debug)]
+pub struct Replies<'a>(pub &'a [Reply]);
+
+impl Display for Replies<'_> {
+    fn fmt<W: fmt::Write>(&self, f: &mut Formatter<W>) -> fmt::Result {
+        for (index, reply) in self.0.iter().enumerate() {
+            write!(f, "{} {reply}\n", index + 1)?;
+        }
+        Ok(())
+    }
+}
+
+#[cfg(test)]
+mod tests;

@@ -1,0 +1,269 @@
+//! The job for one of several shards of an output. From the same files all jobs find the same shards, each by itself.
+ghost use Rattle.std.specs.Prelude.{◌≡◌, ◌⊎◌, ◌+◌, ◌<◌, ◌≤◌, ◌^◌, true, List, ℕ, length, slice_get, Some, IfOk, IfErr};
+ghost use Rattle.std.specs.Prelude.{OnOk, IfSome};
+ghost use Rattle.osm_files.specs.Change.{change_of};
+ghost use Rattle.osm_files.specs.Fault.{memory_fault};
+ghost use Rattle.osm_files.specs.FileInput.{FramedCanGive};
+ghost use Rattle.osm_files.specs.Held.{HoldsSorted};
+ghost use Rattle.osm_files.specs.Output.{IsGoodThroughout};
+ghost use Rattle.osm_model.specs.Pairwise.{Pairwise};
+ghost use Rattle.osm_model.specs.VersionSet.{VersionSet};
+ghost use Rattle.osm_merge.specs.Merged.{Grows};
+ghost use Rattle.osm_merge.specs.Slice.{is_ascending, is_ascending_between};
+ghost use Rattle.osm_mirror.specs.run.Bounds.{shard_span, total_weight};
+ghost use Rattle.osm_mirror.specs.run.Probes.{HaveBytes, Ascend};
+ghost use Rattle.osm_mirror.specs.run.ShardExtent.{IsExtentOf, IsInputOf, AreInputsOf};
+ghost use Rattle.osm_mirror.specs.run.ShardRefusal.{IsFileRefusal, IsFaultOfFile, IsFirstFault, AreRefused};
+ghost use Rattle.osm_mirror.specs.run.ShardRefusal.{RefusesSpan};
+ghost use Rattle.osm_mirror.specs.run.ShardRefusal.{RefusesShardJob, fault_in_extent};
+ghost use Rattle.osm_mirror.specs.run.ShardJob.{IsShardJob, IsSpanJob};
+ghost use Rattle.osm_mirror.specs.run.ShardSpan.{bound_after, span_of_number};
+
+use crate::run::bounds::{Found, bound, find_objects};
+use crate::run::check::run_check_sorted;
+use crate::run::shard::Shard;
+use crate::run::shard_extent::{FileExtent, extent_of};
+use crate::run::slice::{Slice, SliceFile, run_slice};
+use osm_files::{Broken, Fault, Format, FramedExtent, Output, ReadAt, Reason, SortedRun};
+use osm_merge::{Counts, Object, Progress, Selection, Span};
+use std::alloc::Global;
+
+/// The span of all objects.
+const ALL_OBJECTS: Span = Span {
+    from: None,
+    to: None,
+};
+
+/// What the job for a shard writes.
+#[derive(Clone, Copy, Debug, PartialEq, Eq)]
+pub struct ShardJob {
+    /// Which of the output's shards the job writes.
+    pub shard: Shard,
+    /// The versions that are selected from the union of the files' sets.
+    pub selection: Selection,
+    /// The format of the output.
+    pub format: Format,
+}
+
+/// Appends the one file that holds what a shard has of the selection of the versions of all files, each once.
+///
+/// The bounds of the shards are objects of the OPL files, and are the same for any order of the files. Of an OPL file
+/// only the lines within the shard are read, besides single lines that the search for the bounds reads. An o5 file, and
+/// a file of at most 4 KB, is read up to the upper bound. If there are fewer spans than shards, the last shards have no
+/// versions.
+///
+/// # Errors
+///
+/// The files are numbered from 0, and the number of the output is the number of files. If a file that is read can't be
+/// read or isn't sorted, the fault has its number, the reason and the offset in the file. If the file's bytes aren't a
+/// sorted file, this is their first fault, wherever it is, as without shards: the file is read once more up to there.
+/// `WriteFault` if the output failed, `TooLong` if the OPL files together have 2^62 bytes or more, and `Memory` if
+/// memory ran out.
+pub fn run_shard<F: ReadAt, W: Output, P: Progress>(
+    alloc: Global,
+    job: ShardJob,
+    files: &[&F],
+    out: &mut W,
+    progress: &mut P,
+) -> Result<Counts, Fault>
+    ensures written { IfOk result (λ counts. (all : List (List ℕ)) (held : List VersionSet)
+        → HaveBytes (λ file. F.bytes file.now) files.now all → Pairwise HoldsSorted all held
+        → IsShardJob job all held (change_of W.Output out.old out.new) counts) }
+    ensures refused { IfErr result (RefusesShardJob (λ file. F.bytes file.now) (λ file. F.fails file.now) W.Output job
+        files.now out.old out.new) }
+    ensures kept { Grows (change_of W.Output out.old out.new) }
+    ensures good { OnOk result (IsGoodThroughout (change_of W.Output out.old out.new)) }
+{
+    let span = match span_of_shard(alloc, files, job.shard) {
+        Ok(span) => span,
+        Err(fault) => return Err(first_fault(alloc, files, fault)),
+    };
+    match write_span(alloc, job, span, files, out, progress) {
+        Ok(counts) => Ok(counts),
+        Err(fault) => Err(first_fault(alloc, files, fault)),
+    }
+}
+
+/// The span of a shard, or none if there are fewer spans.
+fn span_of_shard<F: ReadAt>(
+    alloc: Global,
+    files: &[&F],
+    shard: Shard,
+) -> Result<Option<Span>, Fault>
+    ensures span { IfOk result (λ span. (all : List (List ℕ)) (held : List VersionSet)
+        → HaveBytes (λ file. F.bytes file.now) files.now all → Pairwise HoldsSorted all held
+        → span ≡ shard_span shard.number shard.count all) }
+    ensures ascends { IfOk result (λ span. IfSome span (λ span. is_ascending span ≡ true)) }
+    ensures refused { IfErr result (AreRefused (λ file. F.bytes file.now) (λ file. F.fails file.now) IsFileRefusal
+        files.now) }
+{
+    let found = find_objects(alloc, files, shard.count)?;
+    Ok(span_between(found.as_slice(), shard))
+}
+
+/// The span of a shard between the bounds that objects determine. The objects ascend.
+fn span_between(found: &[Found], shard: Shard) -> Option<Span>
+    requires ascend { Ascend found.now }
+    ensures span { total_weight found.now < 2 ^ 62 → result ≡ span_of_number shard.number shard.count found.now }
+    ensures ascends { IfSome result (λ span. is_ascending span ≡ true) }
+{
+    let to = bound_after(found, shard);
+    if shard.number == 1 {
+        return Some(Span { from: None, to });
+    }
+    match bound(found, shard.number - 1, shard.count) {
+        Some(from) => Some(Span {
+            from: Some(from),
+            to: not_below(from, to),
+        }),
+        None => None,
+    }
+}
+
+/// The upper bound `to`, or `from` if `to` is below it.
+fn not_below(from: Object, to: Option<Object>) -> Option<Object>
+    ensures ascends { is_ascending_between (Some from) result ≡ true }
+    ensures same { is_ascending_between (Some from) to ≡ true → result ≡ to }
+{
+    match to {
+        Some(to) if to.order(&from).is_lt() => Some(from),
+        _ => to,
+    }
+}
+
+/// The upper bound of a shard; none for the last one.
+fn bound_after(found: &[Found], shard: Shard) -> Option<Object>
+    requires ascend { Ascend found.now }
+    ensures { total_weight found.now < 2 ^ 62 → result ≡ bound_after shard.number shard.count found.now }
+{
+    if shard.number < shard.count {
+        bound(found, shard.number, shard.count)
+    } else {
+        None
+    }
+}
+
+/// Appends what the files have within `span`, or what no files have if there is no span.
+fn write_span<F: ReadAt, W: Output, P: Progress>(
+    alloc: Global,
+    job: ShardJob,
+    span: Option<Span>,
+    files: &[&F],
+    out: &mut W,
+    progress: &mut P,
+) -> Result<Counts, Fault>
+    requires ascends { IfSome span (λ span. is_ascending span ≡ true) }
+    ensures written { IfOk result (λ counts. (all : List (List ℕ)) (held : List VersionSet)
+        → HaveBytes (λ file. F.bytes file.now) files.now all → Pairwise HoldsSorted all held
+        → IsSpanJob job.selection span held job.format (change_of W.Output out.old out.new) counts) }
+    ensures refused { IfErr result (RefusesSpan (λ file. F.bytes file.now) (λ file. F.fails file.now) IsFileRefusal
+        job.selection job.format (λ _. span) files.now (change_of W.Output out.old out.new)) }
+    ensures kept { Grows (change_of W.Output out.old out.new) }
+    ensures good { OnOk result (IsGoodThroughout (change_of W.Output out.old out.new)) }
+{
+    let mut extents = Vec::new(alloc);
+    let inputs = open_extents(alloc, span, files, &mut extents)?;
+    let slice = Slice {
+        span: span.unwrap_or(ALL_OBJECTS),
+        selection: job.selection,
+    };
+    progress.begin();
+    match run_slice(alloc, slice, inputs, job.format, out, progress) {
+        Ok(counts) => Ok(counts),
+        Err(fault) => Err(fault_of_file(extents.as_slice(), files.len(), fault)),
+    }
+}
+
+/// The extents of the files within `span`, as inputs. The extents are appended to `extents`, too. Without a span there
+/// are none.
+fn open_extents<'f, F: ReadAt>(
+    alloc: Global,
+    span: Option<Span>,
+    files: &[&'f F],
+    extents: &mut Vec<FileExtent>,
+) -> Result<Vec<SliceFile<FramedExtent<'f, F>>>, Fault>
+    requires ascends { IfSome span (λ span. is_ascending span ≡ true) }
+    ensures inputs { IfOk result (λ inputs. AreInputsOf (λ file. F.bytes file.now) (λ file. F.fails file.now)
+        (FramedCanGive F.fails F.bytes) span files.now inputs.items) }
+    ensures extents { IfOk result (λ inputs.
+        length extents.new.items ≡ length extents.old.items + length inputs.items) }
+    ensures refused { IfErr result (AreRefused (λ file. F.bytes file.now) (λ file. F.fails file.now) IsFileRefusal
+        files.now) }
+{
+    let mut inputs = Vec::new(alloc);
+    let Some(span) = span else {
+        return Ok(inputs);
+    };
+    'files: for (number, file) in files.iter().enumerate() {
+        let extent = extent_of(alloc, *file, number, span)?;
+        extents.push(extent)?;
+        inputs.push(open_extent(*file, span, extent))?;
+    }
+    Ok(inputs)
+}
+
+/// An extent of a file within `span` as an input.
+fn open_extent<'f, F: ReadAt>(
+    file: &'f F,
+    span: Span,
+    extent: FileExtent,
+) -> SliceFile<FramedExtent<'f, F>>
+    requires extent { IsExtentOf span (F.bytes file.now) extent }
+    ensures { IsInputOf (λ file. F.bytes file.now) (λ file. F.fails file.now) (FramedCanGive F.fails F.bytes) span
+        file.entry result }
+{
+    SliceFile {
+        reader: FramedExtent::of_run(file, extent.size, extent.run),
+        outside: extent.outside,
+    }
+}
+
+/// The fault of an input as the fault of its file, whose place is the offset in the file. A fault of the output gets
+/// the number of files.
+fn fault_of_file(extents: &[FileExtent], files: usize, fault: Fault) -> Fault
+    ensures { result ≡ fault_in_extent fault files (slice_get extents.now fault.input) }
+{
+    match extents.get(fault.input) {
+        Some(extent) => Fault::at(
+            fault.input,
+            extent.run.offset_in_file(fault.place),
+            fault.reason,
+        ),
+        None => Fault::at(files, fault.place, fault.reason),
+    }
+}
+
+/// The first fault of the file that a fault names, if it isn't a sorted file; otherwise the fault itself.
+///
+/// Why: an extent of a file shows some fault of the file, and not the first one.
+fn first_fault<F: ReadAt>(alloc: Global, files: &[&F], fault: Fault) -> Fault
+    ensures file { AreRefused (λ file. F.bytes file.now) (λ file. F.fails file.now) IsFileRefusal files.now fault
+        → AreRefused (λ file. F.bytes file.now) (λ file. F.fails file.now) IsFaultOfFile files.now result }
+    ensures same { (fault ≡ memory_fault) ⊎ (length files.now ≤ fault.input) → result ≡ fault }
+{
+    if fault == Fault::memory() {
+        return fault;
+    }
+    match files.get(fault.input) {
+        Some(file) => first_fault_of(alloc, *file, fault),
+        None => fault,
+    }
+}
+
+/// The first fault of a file, or `fault` if the whole file is sorted.
+fn first_fault_of<F: ReadAt>(alloc: Global, file: &F, fault: Fault) -> Fault
+    ensures { IsFirstFault (F.fails file.now) (F.bytes file.now) fault result }
+{
+    let size = match file.size() {
+        Ok(size) => size,
+        Err(Broken) => return Fault::at(fault.input, 0, Reason::ReadFault),
+    };
+    let whole = FramedExtent::of_run(file, size, SortedRun::whole());
+    match run_check_sorted(alloc, whole) {
+        Ok(_) => fault,
+        Err(first) => Fault::at(fault.input, first.place, first.reason),
+    }
+}
+
+#[cfg(test)]
+mod tests;
