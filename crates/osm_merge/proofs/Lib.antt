@@ -4,7 +4,6 @@ mod TreeLaws
 pub mod GiveLaws
 mod Asking
 mod PassLaws
-mod ObjectLaws
 mod SelectedLaws
 mod Choosing
 mod NewestLaws

@@ -13,35 +13,12 @@ use Rattle.osm_model.specs.Data.{VersionData}
 use Rattle.osm_model.specs.Order.{object_cmp, version_cmp, object_cmp_total, version_cmp_total}
 use Rattle.osm_model.specs.Sets.{to_list}
 use Rattle.osm_model.specs.VersionSet.{VersionSet}
+use Rattle.osm_model.proofs.ObjectLaws.{objects_together}
 use Rattle.osm_model.proofs.SetLaws.{strict-listed}
 use Rattle.osm_model.proofs.VersionLaws.{to_list-view}
 use Rattle.osm_merge.specs.Pass.{same_object}
 use Rattle.osm_merge.specs.Selected.{beats}
 use Rattle.osm_mirror.specs.Check.{new_objects, objects_after, object_count}
-
--- a list that ascends by two orders doesn't fall by the first
-not_falling : (a b : Ordering) → is_gt (ordering_then a b) ≡ false → is_gt a ≡ false
-not_falling Less b e = refl
-not_falling Equal b e = refl
-not_falling Greater b e = e
-
-object_rises : (v w : VersionData) → version_cmp v w ≡ Less → is_gt (object_cmp v w) ≡ false
-object_rises v w less = not_falling _ _ (not_falling _ _ (not_falling _ _ (not_falling _ _ (ap is_gt less))))
-
-no_more : (r s : Ordering) → r ≡ ordering_reverse s → is_gt r ≡ false → is_gt s ≡ false → is_eq r ≡ true
-no_more Less Less e h k = absurd (false≢true (ap is_gt e))
-no_more Less Equal e h k = absurd (false≢true (ap is_eq e))
-no_more Less Greater e h k = absurd (false≢true (sym k))
-no_more Equal s e h k = refl
-no_more Greater s e h k = absurd (false≢true (sym h))
-
--- a version between two versions of an object is a version of this object
-together : (u v w : VersionData) → version_cmp u v ≡ Less → version_cmp v w ≡ Less → same_object u w ≡ true → same_object u v ≡ true
-together u v w uv vw uw =
-    let back : is_gt (object_cmp w u) ≡ false = ap is_gt (object_cmp_total.antisymm w u)
-    ∙ ap (λ r. is_gt (ordering_reverse r)) ((Equal-is (object_cmp u w)).0 uw) in
-    no_more (object_cmp u v) (object_cmp v u) (object_cmp_total.antisymm u v) (object_rises u v uv)
-    (upto object_cmp_total v w u (object_rises v w vw) back)
 
 and_true : (a : Bool) → (a && true) ≡ a
 and_true true = refl
@@ -69,7 +46,8 @@ none_after : (v w : VersionData) → version_cmp v w ≡ Less → same_object v 
     AllByRecursion (λ x. version_cmp w x ≡ Less) xs → list_any (beats v) xs ≡ false
 none_after v w less other [] h = refl
 none_after v w less other (x ∷ xs) h =
-    let apart : same_object v x ≡ false = false_unless (same_object v x) (λ t. false≢true (sym other ∙ together v w x less h.0 t)) in
+    let apart : same_object v x ≡ false =
+    false_unless (same_object v x) (λ t. false≢true (sym other ∙ objects_together v w x less h.0 t)) in
     ap (λ b. (b && is_lt (version_cmp v x)) || list_any (beats v) xs) apart ∙ none_after v w less other xs h.1
 
 -- the newest version of an object in a list

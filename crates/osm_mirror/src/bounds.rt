@@ -15,7 +15,7 @@ ghost use Rattle.osm_mirror.specs.ShardRefusal.{AreRefused, IsFileRefusal};
 use crate::lines_from::{LinesFrom, lines_before};
 use crate::shard_part::opl_size;
 use osm_files::{Fault, LENGTH_LIMIT, ReadAt};
-use osm_merge::Object;
+use osm_model::Object;
 use std::alloc::{AllocError, Global};
 
 /// The number of probes for each shard.

@@ -24,7 +24,8 @@ use crate::shard::Shard;
 use crate::shard_part::{FilePart, part_of};
 use crate::slice::{Slice, SliceFile, run_slice};
 use osm_files::{Broken, Fault, Format, FramedExtent, Output, ReadAt, Reason, SortedRun};
-use osm_merge::{Counts, Object, Progress, Selection, Span};
+use osm_merge::{Counts, Progress, Selection, Span};
+use osm_model::Object;
 use std::alloc::Global;
 
 /// The span of all objects.
