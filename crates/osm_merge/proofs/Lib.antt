@@ -4,7 +4,6 @@ mod TreeLaws
 pub mod GiveLaws
 mod Asking
 pub mod PassLaws
-pub mod ObjectLaws
 mod SelectedLaws
 mod Choosing
 mod NewestLaws

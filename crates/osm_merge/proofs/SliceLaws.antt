@@ -12,54 +12,35 @@ use Rattle.std.specs.List.{filter, flat_map, concat, AllByRecursion}
 use Rattle.std.specs.List.Sorted.{IsStrictlySortedBy, IsSorted}
 use Rattle.std.proofs.lemmas.List.Elements.{filter_agree, All-head, All-tail}
 use Rattle.std.proofs.lemmas.Grind.{flat_map-append}
+use Rattle.osm_model.specs.declared.object.Object.{Object}
 use Rattle.osm_model.specs.Data.{VersionData}
 use Rattle.osm_model.specs.Kind.{kind_order}
-use Rattle.osm_model.specs.Order.{is_positive, version_cmp, version_cmp_total, object_cmp}
+use Rattle.osm_model.specs.Order.{version_cmp, version_cmp_total, object_cmp, object_of, object_order, object_order_total}
 use Rattle.osm_model.specs.VersionSet.{VersionSet}
 use Rattle.osm_model.specs.Sets.{to_list, contains}
 use Rattle.osm_model.proofs.SetLaws.{same_set, strict-listed}
 use Rattle.osm_model.proofs.VersionLaws.{version_cmp-IsAntisymmetric}
+use Rattle.osm_model.proofs.ObjectLaws.{below_is, not_below, object_rises}
 use Rattle.osm_files.specs.declared.format.Format.TheVariants.{Opl}
 use Rattle.osm_files.specs.Spell.{line_with_end, spell}
 use Rattle.osm_files.proofs.LineLists.{lines, spell_is_lines}
-use Rattle.osm_merge.specs.declared.object.Object.{Object}
-use Rattle.osm_merge.specs.declared.object.Span.{Span}
+use Rattle.osm_merge.specs.declared.span.Span.{Span}
 use Rattle.osm_merge.specs.declared.selection.Selection.{Selection}
 use Rattle.osm_merge.specs.declared.selection.Selection.TheVariants.{All, Visible, Newest, NewestVisible, State, StateVisible, Between}
 use Rattle.osm_merge.specs.Members.{retain, least, union_all}
 use Rattle.osm_merge.specs.Pass.{stays, same_object}
 use Rattle.osm_merge.specs.Selected.{moment, is_visible, beats, snapshot, is_by, next_in, selection_of}
-use Rattle.osm_merge.specs.Slice.{object_of, object_order, reaches, is_under, is_within, is_ascending, slice_of, span_of, spans_from, spans}
+use Rattle.osm_merge.specs.Slice.{reaches, is_under, is_within, is_ascending, slice_of, span_of, spans_from, spans}
 use Rattle.osm_merge.specs.SliceLaws.{LinesOfSlices, SelectedOfSlice, SliceOfUnions, SlicesWriteTheWhole, AscendingSpansAreSorted}
-use Rattle.osm_merge.proofs.ObjectLaws.{object_rises}
 use Rattle.osm_merge.proofs.PassLaws.{filter_filter, filter_none}
 use Rattle.osm_merge.proofs.SelectedLaws.{listed_with, none_next}
 use Rattle.osm_merge.proofs.SnapLaws.{contains-retain, retain_all}
 use Rattle.osm_files.proofs.SpellLaws.{equal_sets as equal}
 
--- ---- the order of objects
--- The order of objects is total.
-pub order_total : IsTotalOrder object_order
-order_total =
-    then_total (then_total (on_total (λ o. kind_order o.kind) nat_cmp_total) (on_total (λ o. is_positive o.id) bool_cmp_total))
-    (on_total (λ o. unsigned_abs o.id) nat_cmp_total)
-
-lt_back : (r : Ordering) → is_lt (ordering_reverse r) ≡ is_gt r
-lt_back Less = refl
-lt_back Equal = refl
-lt_back Greater = refl
-
+-- ---- a bound
 not_true : (b : Bool) → not b ≡ true → b ≡ false
 not_true true h = absurd (false≢true h)
 not_true false h = refl
-
--- an object is below another one, or the other isn't above it
-pub below_is : (x y : Object) → is_lt (object_order x y) ≡ is_gt (object_order y x)
-below_is x y = ap is_lt (order_total.antisymm x y) ∙ lt_back (object_order y x)
-
--- an object that isn't below a bound isn't below a lower one
-pub not_below : (x y z : Object) → is_lt (object_order x y) ≡ false → is_lt (object_order y z) ≡ false → is_lt (object_order x z) ≡ false
-not_below x y z h k = below_is x z ∙ upto order_total z y x (sym (below_is y z) ∙ k) (sym (below_is x y) ∙ h)
 
 -- a version that is less than one under a bound is under it, too
 pub under_down : (bound : Object) (v w : VersionData) → version_cmp v w ≡ Less → is_under (Some bound) w ≡ true →
@@ -212,7 +193,7 @@ lines_of_slices bounds s h =
 -- two versions of one object are within the same bounds
 order_same : (v w : VersionData) (bound : Object) → same_object v w ≡ true →
     object_order (object_of v) bound ≡ object_order (object_of w) bound
-order_same v w bound e = order_total.congr (object_of v) (object_of w) bound ((Equal-is (object_cmp v w)).0 e)
+order_same v w bound e = object_order_total.congr (object_of v) (object_of w) bound ((Equal-is (object_cmp v w)).0 e)
 
 reaches_same : (from : Option Object) (v w : VersionData) → same_object v w ≡ true → reaches from v ≡ reaches from w
 reaches_same None v w e = refl

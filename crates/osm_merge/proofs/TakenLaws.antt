@@ -15,6 +15,7 @@ use Rattle.osm_model.specs.Sets.{to_list, from_list, union}
 use Rattle.osm_model.proofs.MergedLaws.{merge-less, merge-equal, merge-greater, sorted_merged, from_list-merged}
 use Rattle.osm_model.proofs.SetLaws.{to_list-from_list, strict-listed}
 use Rattle.osm_model.proofs.VersionLaws.{version_cmp-IsAntisymmetric}
+use Rattle.osm_model.proofs.ObjectLaws.{object_rises}
 use Rattle.osm_merge.specs.declared.selection.Selection.TheVariants.{Newest}
 use Rattle.osm_merge.specs.Members.{first}
 use Rattle.osm_merge.specs.Pass.{singleton_if, keeps}
@@ -24,7 +25,6 @@ use Rattle.osm_merge.specs.declared.taking.OrderBy.TheVariants.{Versions, Object
 use Rattle.osm_merge.specs.Taking.{order_of, union_by, greater_of, merge_by}
 use Rattle.osm_files.proofs.HoldLaws.{set_listed}
 use Rattle.osm_merge.proofs.NewestLaws.{newest_of}
-use Rattle.osm_merge.proofs.ObjectLaws.{object_rises}
 use Rattle.osm_merge.proofs.SelectedLaws.{pass_of_set}
 use Rattle.osm_merge.proofs.SnapLaws.{snapshot_of_union, snapshot_of_snapshot}
 use Rattle.osm_merge.proofs.TakingLaws.{joined_versions}

@@ -7,7 +7,7 @@ use Rattle.osm_files.specs.Fault.{failed_fault}
 use Rattle.osm_files.specs.Input.{Explained}
 use Rattle.osm_files.specs.Source.{SourceStep, SourceSteps}
 use Rattle.osm_files.specs.Stream.{end_whole, front, end_refused}
-use Rattle.osm_merge.specs.declared.object.Span.{Span}
+use Rattle.osm_merge.specs.declared.span.Span.{Span}
 use Rattle.osm_merge.specs.declared.within.Outside.TheVariants as outside
 use Rattle.osm_merge.specs.declared.within.State.{State}
 use Rattle.osm_merge.specs.declared.within.State.TheVariants as state

@@ -2,26 +2,13 @@
 -- project.
 use Rattle.std.specs.Prelude.{◌≡◌, Bool, true, not, ◌&&◌, List, [], ◌∷◌, map}
 use Rattle.std.specs.Prelude.{Option, Some, None}
-use Rattle.std.specs.declared.cmp.Ordering.{Ordering}
-use Rattle.std.specs.Ordering.{then_cmp, on, nat_cmp, bool_cmp, is_lt}
-use Rattle.std.specs.Prelude.{unsigned_abs}
-use Rattle.osm_model.specs.Data.{VersionData, kind_of}
-use Rattle.osm_model.specs.Kind.{kind_order}
-use Rattle.osm_model.specs.Order.{is_positive}
+use Rattle.std.specs.Ordering.{is_lt}
+use Rattle.osm_model.specs.declared.object.Object.{Object}
+use Rattle.osm_model.specs.Data.{VersionData}
+use Rattle.osm_model.specs.Order.{object_of, object_order}
 use Rattle.osm_model.specs.VersionSet.{VersionSet}
-use Rattle.osm_merge.specs.declared.object.Object.{Object}
-use Rattle.osm_merge.specs.declared.object.Span.{Span}
+use Rattle.osm_merge.specs.declared.span.Span.{Span}
 use Rattle.osm_merge.specs.Members.{retain}
-
--- the object of a version: its kind and its id
-abbrev pub object_of : VersionData → Object
-object_of v = record { kind = kind_of v.body; id = v.id }
-
--- The order of objects: the kind; then ids up to 0 before ids above 0; then the absolute value of the id. The order of
--- versions begins with it.
-abbrev pub object_order : Object → Object → Ordering
-object_order = then_cmp (then_cmp (on (λ o. kind_order o.kind) nat_cmp) (on (λ o. is_positive o.id) bool_cmp))
-    (on (λ o. unsigned_abs o.id) nat_cmp)
 
 -- the object of a version is not below the lower bound, if there is one
 abbrev pub reaches : Option Object → VersionData → Bool

@@ -3,15 +3,16 @@ use Rattle.std.specs.Prelude.{◌≡◌, true, List, map, Option}
 use Rattle.std.specs.List as list
 use Rattle.std.specs.List.{concat}
 use Rattle.std.specs.List.Sorted.{IsSorted}
+use Rattle.osm_model.specs.declared.object.Object.{Object}
 use Rattle.osm_model.specs.Pairwise.{Pairwise}
 use Rattle.osm_model.specs.VersionSet.{VersionSet}
+use Rattle.osm_model.specs.Order.{object_order}
 use Rattle.osm_files.specs.declared.format.Format.TheVariants.{Opl}
 use Rattle.osm_files.specs.Spell.{spell}
-use Rattle.osm_merge.specs.declared.object.Object.{Object}
 use Rattle.osm_merge.specs.declared.selection.Selection.{Selection}
 use Rattle.osm_merge.specs.Members.{union_all}
 use Rattle.osm_merge.specs.Selected.{selection_of}
-use Rattle.osm_merge.specs.Slice.{object_order, slice_of, spans, slices, IsWithin, is_ascending}
+use Rattle.osm_merge.specs.Slice.{slice_of, spans, slices, IsWithin, is_ascending}
 
 -- the lines of a set are those of its slices, in sequence
 abbrev pub LinesOfSlices : Type 0

@@ -12,7 +12,7 @@ use Rattle.osm_files.specs.declared.reason.Reason.TheVariants.{Unsorted}
 use Rattle.osm_files.specs.Fault.{failed_fault, fault_at}
 use Rattle.osm_files.specs.Source.{Ascends}
 use Rattle.osm_files.specs.Stream.{end_whole, end_refused, front}
-use Rattle.osm_merge.specs.declared.object.Span.{Span}
+use Rattle.osm_merge.specs.declared.span.Span.{Span}
 use Rattle.osm_merge.specs.declared.within.Outside.{Outside}
 use Rattle.osm_merge.specs.declared.within.Outside.TheVariants.{Dropped, Refused}
 use Rattle.osm_merge.specs.declared.within.State.{State}

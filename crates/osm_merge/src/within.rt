@@ -8,7 +8,7 @@ ghost use Rattle.osm_merge.specs.Within.{has_failed};
 ghost use Rattle.osm_merge.specs.declared.within.Outside.TheVariants as outside;
 ghost use Rattle.osm_merge.specs.declared.within.State.TheVariants as state;
 
-use crate::object::Span;
+use crate::span::Span;
 use osm_files::{Fault, Reason, Source};
 use osm_model::Version;
 

@@ -10,8 +10,8 @@ pub use fleet::{
     Event, Fleet, Keep, Mirror, MirrorEvent, Plan, PlanFault, PlanReason, PlanWrite, Replies,
     Reply, Step, Taken, events_of, read_plan,
 };
-pub use osm_merge::{Counts, NoProgress, Object, Outside, Progress, Relation, Selection, Span};
-pub use osm_model::{Kind, Memory, Version};
+pub use osm_merge::{Counts, NoProgress, Outside, Progress, Relation, Selection, Span};
+pub use osm_model::{Kind, Memory, Object, Version};
 pub use report::{
     BytesRead, CUT, CheckedFile, CheckedJson, Content, Conversion, Escaped, EscapedBytes,
     EscapedOut, Explanation, FaultyLine, JobSummary, JobTally, JsonText, Quoted, REASONS,

@@ -7,9 +7,9 @@ use anyhow::{Result, bail};
 use osm_files::{
     Broken, Fault, Format, FromRead, Input, Output, ReadAt, ToWrite, first_version, line_start,
 };
-use osm_merge::{Counts, NoProgress, Object, Outside, Selection, Span};
+use osm_merge::{Counts, NoProgress, Outside, Selection, Span};
 use osm_mirror::{Slice, SliceFile, cut_offset, run_slice};
-use osm_model::Kind;
+use osm_model::{Kind, Object};
 use std::alloc::Global;
 
 /// The calls.

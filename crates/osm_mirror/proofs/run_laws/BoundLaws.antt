@@ -18,11 +18,10 @@ use Rattle.std.proofs.lemmas.List.Sorted.{IsPermutation-map, sum_by-IsPermutatio
 use Rattle.std.proofs.lemmas.List.Sums.{sum_by-cons, sum_by-append, sum_by_push}
 use Rattle.osm_model.specs.declared.kind.Kind.{Kind}
 use Rattle.osm_model.specs.declared.kind.Kind.TheVariants.{Node, Way, Relation}
+use Rattle.osm_model.specs.declared.object.Object.{Object}
 use Rattle.osm_model.specs.Kind.{kind_order}
-use Rattle.osm_model.specs.Order.{is_positive}
-use Rattle.osm_merge.specs.declared.object.Object.{Object}
-use Rattle.osm_merge.specs.Slice.{object_order}
-use Rattle.osm_merge.proofs.SliceLaws.{order_total, below_is, not_below}
+use Rattle.osm_model.specs.Order.{is_positive, object_order, object_order_total}
+use Rattle.osm_model.proofs.ObjectLaws.{below_is, not_below}
 use Rattle.osm_mirror.specs.declared.run.bounds.Found.{Found}
 use Rattle.osm_mirror.specs.run.Bounds.{total_weight, weight_if_below, weight_below, is_past, lower, least, bound_of}
 use Rattle.osm_mirror.specs.run.Probes.{Ascend, is_above}
@@ -81,7 +80,7 @@ tied : (x y : Object) → lt x y ≡ false → lt y x ≡ false → x ≡ y
 tied x y h k = same_objects x y (no_order (object_order x y) h (sym (below_is y x) ∙ k))
 
 not_itself : (x : Object) → lt x x ≡ false
-not_itself x = ap is_lt (tied_itself order_total x)
+not_itself x = ap is_lt (tied_itself object_order_total x)
 
 not_both : (r : Ordering) → is_lt r ≡ true → is_gt r ≡ false
 not_both Less h = refl

@@ -5,7 +5,7 @@ use Rattle.std.proofs.lemmas.Nat.{mul-le}
 use Rattle.std.proofs.lemmas.List.{take_all}
 use Rattle.std.proofs.lemmas.List.Sums.{sum_by-le-sum_by, sum_by_more, sum_by-take-le}
 use Rattle.std.specs.List.{AllByRecursion}
-use Rattle.osm_merge.specs.declared.object.Object.{Object}
+use Rattle.osm_model.specs.declared.object.Object.{Object}
 use Rattle.osm_mirror.specs.declared.run.bounds.Found.{Found}
 use Rattle.osm_mirror.specs.run.Bounds.{total_weight, weight_if_below, weight_below, is_past, bound_of}
 use Rattle.osm_mirror.specs.run.Probes.{Ascend, is_above}

@@ -11,9 +11,11 @@ use Rattle.std.specs.Ordering.{ordering_then, is_lt}
 use Rattle.std.specs.List.{filter, AllByRecursion}
 use Rattle.std.specs.List.Sorted.{IsSorted}
 use Rattle.std.proofs.lemmas.List.{append_cancel_right}
+use Rattle.osm_model.specs.declared.object.Object.{Object}
 use Rattle.osm_model.specs.Data.{VersionData}
-use Rattle.osm_model.specs.Order.{key_cmp, object_cmp}
+use Rattle.osm_model.specs.Order.{key_cmp, object_cmp, object_of, object_order}
 use Rattle.osm_model.specs.Pairwise.{Pairwise}
+use Rattle.osm_model.proofs.ObjectLaws.{not_below}
 use Rattle.opl_line.specs.Delimiter.{is_line_end, split_first, pieces_of, with_byte}
 use Rattle.opl_line.specs.Spells.{Spells}
 use Rattle.opl_line.proofs.CutLaws.{cut_split}
@@ -28,9 +30,7 @@ use Rattle.osm_files.proofs.FirstLaws.{one_opl}
 use Rattle.osm_files.proofs.JoinLaws.{SplitVersions}
 use Rattle.osm_files.proofs.LineStarts.{start_lines, start_begins, starts_rise, next_drop, one_start}
 use Rattle.osm_files.proofs.StartLaws.{opl_starts}
-use Rattle.osm_merge.specs.declared.object.Object.{Object}
-use Rattle.osm_merge.specs.Slice.{object_of, object_order, reaches, is_under}
-use Rattle.osm_merge.proofs.SliceLaws.{not_below}
+use Rattle.osm_merge.specs.Slice.{reaches, is_under}
 use Rattle.osm_mirror.specs.declared.run.lines_from.LinesFrom.{LinesFrom}
 use Rattle.osm_mirror.specs.run.Bounds.{object_of_first}
 use Rattle.osm_mirror.specs.run.CutOffset.{IsCutAt, IsCutOf, IsCutRefusal, BeginsLinesOf, BeginsAs, IsUnderBefore, first_is_under}

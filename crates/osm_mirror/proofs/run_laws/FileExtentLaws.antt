@@ -34,8 +34,7 @@ use Rattle.osm_files.proofs.HoldLaws.{source_gives_held, set_listed}
 use Rattle.osm_files.proofs.RunBytes.{run_given}
 use Rattle.osm_files.proofs.RunOrderLaws.{Refuses, run_refuses, run_front, broken_fails}
 use Rattle.osm_files.proofs.SpellLaws.{held_is_one_set}
-use Rattle.osm_merge.specs.declared.object.Object.{Object}
-use Rattle.osm_merge.specs.declared.object.Span.{Span}
+use Rattle.osm_merge.specs.declared.span.Span.{Span}
 use Rattle.osm_merge.specs.declared.within.Outside.{Outside}
 use Rattle.osm_merge.specs.declared.within.Outside.TheVariants.{Dropped, Refused}
 use Rattle.osm_merge.specs.Slice.{slice_of, is_within, is_under, is_ascending, IsWithin}
@@ -46,6 +45,7 @@ use Rattle.osm_files.proofs.SpellLaws.{equal_sets as equal}
 use Rattle.osm_mirror.specs.declared.run.shard_extent.FileExtent.{FileExtent}
 use Rattle.osm_mirror.specs.run.Bounds.{is_opl}
 use Rattle.std.proofs.Common.{Result, Ok, Err, IfOk}
+use Rattle.osm_model.specs.declared.object.Object.{Object}
 use Rattle.osm_mirror.specs.run.CutOffset.{BeginsAs, BeginsLinesOf, IsCutOf, IsCutRefusal}
 use Rattle.osm_mirror.specs.run.ShardExtent.{lines_between, IsFileExtent, IsExtentOf, BeginsAtOf, EndsAtOf}
 use Rattle.osm_mirror.specs.run.Merge.{GivesSorted}

@@ -1,15 +1,15 @@
 -- The lines of a file from an offset on, if those from a later offset on are known.
 use Rattle.std.proofs.Common.{◌≡◌, inl, inr, ⊎_elim, ℕ, ◌≤◌, ◌<◌, List, [], ◌∷◌, ◌++◌, length, drop, sym, ap, ◌∙◌, subst, arith}
 use Rattle.std.proofs.Common.{Option, Some, None, Ok, Err, IfSome}
+use Rattle.osm_model.specs.declared.object.Object.{Object}
 use Rattle.osm_model.specs.Data.{VersionData}
+use Rattle.osm_model.specs.Order.{object_of}
 use Rattle.osm_files.specs.declared.fault.Fault.{Fault}
 use Rattle.osm_files.specs.Lines.{lines_from, line_start_from, bytes_between, IsLineStart, IsFirstOf, IsFirstIn, IsFirstBetween}
 use Rattle.osm_files.specs.Opl.{OplFile}
 use Rattle.osm_files.proofs.FirstLaws.{one_opl}
 use Rattle.osm_files.proofs.JoinLaws.{SplitVersions}
 use Rattle.osm_files.proofs.LineStarts.{start_lines, start_begins, start_within, starts_rise, one_start, end_begins}
-use Rattle.osm_merge.specs.declared.object.Object.{Object}
-use Rattle.osm_merge.specs.Slice.{object_of}
 use Rattle.osm_mirror.specs.declared.run.lines_from.LinesFrom.{LinesFrom}
 use Rattle.osm_mirror.specs.run.Bounds.{object_of_first}
 use Rattle.osm_mirror.specs.run.CutOffset.{IsCutRefusal}

@@ -13,15 +13,12 @@ use Rattle.osm_model.specs.Data.{VersionData}
 use Rattle.osm_model.specs.Order.{object_cmp, version_cmp, object_cmp_total, version_cmp_total}
 use Rattle.osm_model.specs.Sets.{to_list}
 use Rattle.osm_model.specs.VersionSet.{VersionSet}
+use Rattle.osm_model.proofs.ObjectLaws.{objects_together}
 use Rattle.osm_model.proofs.SetLaws.{strict-listed}
 use Rattle.osm_model.proofs.VersionLaws.{to_list-view}
 use Rattle.osm_merge.specs.Pass.{same_object}
 use Rattle.osm_merge.specs.Selected.{beats}
-use Rattle.osm_merge.proofs.OrderLaws.{no_more}
 use Rattle.osm_mirror.specs.run.Check.{new_objects, objects_after, object_count}
-use Rattle.osm_merge.proofs.ObjectLaws.{not_falling}
-use Rattle.osm_merge.proofs.ObjectLaws.{object_rises}
-use Rattle.osm_merge.proofs.ObjectLaws.{objects_together as together}
 
 and_true : (a : Bool) → (a && true) ≡ a
 and_true true = refl
@@ -49,7 +46,8 @@ none_after : (v w : VersionData) → version_cmp v w ≡ Less → same_object v 
     AllByRecursion (λ x. version_cmp w x ≡ Less) xs → list_any (beats v) xs ≡ false
 none_after v w less other [] h = refl
 none_after v w less other (x ∷ xs) h =
-    let apart : same_object v x ≡ false = false_unless (same_object v x) (λ t. false≢true (sym other ∙ together v w x less h.0 t)) in
+    let apart : same_object v x ≡ false =
+    false_unless (same_object v x) (λ t. false≢true (sym other ∙ objects_together v w x less h.0 t)) in
     ap (λ b. (b && is_lt (version_cmp v x)) || list_any (beats v) xs) apart ∙ none_after v w less other xs h.1
 
 -- the newest version of an object in a list

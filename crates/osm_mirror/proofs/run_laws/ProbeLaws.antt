@@ -10,9 +10,11 @@ use Rattle.std.proofs.lemmas.Bool.Decides.{nat_tests}
 use Rattle.std.proofs.lemmas.Grind.{flat_map-append}
 use Rattle.std.proofs.lemmas.List.Sums.{sum_by_push, sum_by-append, sum_by-cons}
 use Rattle.std.proofs.lemmas.Nat.{mul-le, div-add-mod', row_fits}
+use Rattle.osm_model.specs.declared.object.Object.{Object}
 use Rattle.osm_model.specs.Data.{VersionData}
 use Rattle.osm_model.specs.Pairwise.{Pairwise}
 use Rattle.osm_model.specs.VersionSet.{VersionSet}
+use Rattle.osm_model.specs.Order.{object_of}
 use Rattle.osm_files.specs.declared.fault.Fault.{Fault}
 use Rattle.osm_files.specs.Held.{HoldsSorted, IsFileOf}
 use Rattle.osm_files.specs.Lines.{lines_from}
@@ -20,8 +22,6 @@ use Rattle.osm_files.specs.O5.{reset_byte}
 use Rattle.osm_files.specs.Opl.{OplFile}
 use Rattle.osm_files.specs.Units.{InOpl, start_of}
 use Rattle.osm_files.proofs.FirstLaws.{lines_read}
-use Rattle.osm_merge.specs.declared.object.Object.{Object}
-use Rattle.osm_merge.specs.Slice.{object_of}
 use Rattle.osm_mirror.specs.declared.run.bounds.Found.{Found}
 use Rattle.osm_mirror.specs.run.Bounds.{is_opl, opl_size, object_of_first, first_object, found_once, found_at, found_by, probe_count}
 use Rattle.osm_mirror.specs.run.Bounds.{found_in, total_weight}

@@ -23,10 +23,10 @@ use Rattle.osm_files.specs.Units.{InOpl, start_of}
 use Rattle.osm_files.proofs.FirstLaws.{one_opl}
 use Rattle.osm_files.proofs.JoinLaws.{Ended, SplitVersions}
 use Rattle.osm_files.proofs.LineStarts.{end_begins}
-use Rattle.osm_merge.specs.declared.object.Object.{Object}
-use Rattle.osm_merge.specs.declared.object.Span.{Span}
+use Rattle.osm_merge.specs.declared.span.Span.{Span}
 use Rattle.osm_merge.specs.Members.{retain}
 use Rattle.std.specs.List.Sorted.{IsSorted}
+use Rattle.osm_model.specs.declared.object.Object.{Object}
 use Rattle.osm_merge.specs.Slice.{slice_of, is_ascending, is_ascending_between, is_within, is_under, reaches, IsWithin}
 use Rattle.osm_merge.proofs.SliceLaws.{kept_in}
 use Rattle.osm_files.proofs.SpellLaws.{equal_sets as equal}

@@ -9,6 +9,7 @@ use Rattle.std.proofs.lemmas.List.{nil_from_length}
 use Rattle.osm_model.specs.VersionSet.{VersionSet}
 use Rattle.osm_model.specs.Pairwise.{Pairwise}
 use Rattle.osm_model.specs.declared.kind.Kind.TheVariants.{Node}
+use Rattle.osm_model.specs.declared.object.Object.{Object}
 use Rattle.osm_files.specs.declared.fault.Fault.{Fault}
 use Rattle.osm_files.specs.declared.format.Format.TheVariants.{Opl}
 use Rattle.osm_files.specs.declared.reason.Reason.TheVariants.{Memory}
@@ -24,13 +25,13 @@ use Rattle.osm_files.proofs.RunBytes.{run_given}
 use Rattle.osm_files.proofs.RunOrderLaws.{Refuses, run_refuses}
 use Rattle.osm_files.proofs.SplitLaws.{whole_file}
 use Rattle.osm_model.specs.Sets.{size}
+use Rattle.osm_model.specs.Order.{object_order}
 use Rattle.osm_merge.specs.declared.merge.Counts.{Counts}
 use Rattle.osm_merge.specs.Union.{capped_count}
-use Rattle.osm_merge.specs.declared.object.Object.{Object}
-use Rattle.osm_merge.specs.declared.object.Span.{Span}
+use Rattle.osm_merge.specs.declared.span.Span.{Span}
 use Rattle.osm_merge.specs.declared.selection.Selection.{Selection}
 use Rattle.osm_merge.specs.Selected.{selection_of}
-use Rattle.osm_merge.specs.Slice.{object_order, spans}
+use Rattle.osm_merge.specs.Slice.{spans}
 use Rattle.osm_mirror.specs.declared.run.check.CheckReport.{CheckReport}
 use Rattle.osm_mirror.specs.declared.run.shard_job.ShardJob.{ShardJob}
 use Rattle.osm_mirror.specs.run.Bounds.{bounds_of, span_at, shard_span}

@@ -8,9 +8,10 @@ use Rattle.std.specs.List.{AllByRecursion}
 use Rattle.std.specs.List.Sorted.{IsSorted, IsPermutation}
 use Rattle.std.proofs.lemmas.List.Elements.{All-contains, All-from_recursion}
 use Rattle.std.proofs.lemmas.List.Sorted.{IsPermutation-refl}
-use Rattle.osm_merge.specs.declared.object.Object.{Object}
-use Rattle.osm_merge.specs.declared.object.Span.{Span}
-use Rattle.osm_merge.specs.Slice.{object_order, span_of, spans_from, spans, is_ascending, is_ascending_between}
+use Rattle.osm_model.specs.declared.object.Object.{Object}
+use Rattle.osm_model.specs.Order.{object_order}
+use Rattle.osm_merge.specs.declared.span.Span.{Span}
+use Rattle.osm_merge.specs.Slice.{span_of, spans_from, spans, is_ascending, is_ascending_between}
 use Rattle.osm_merge.proofs.SliceLaws.{ascending_spans_are_sorted}
 use Rattle.osm_mirror.specs.declared.run.bounds.Found.{Found}
 use Rattle.osm_mirror.specs.run.Bounds.{total_weight, weight_below, is_past, bound_of, bound_then, bounds_from, bounds_of, span_at}

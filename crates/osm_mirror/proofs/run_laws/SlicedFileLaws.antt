@@ -9,30 +9,31 @@ use Rattle.std.specs.Ordering.{ordering_then, eq_by_cmp, is_lt, is_gt, is_eq}
 use Rattle.std.specs.Cmp.{first_so, second_so, tied_itself}
 use Rattle.std.specs.List.{list_any, concat, AllByRecursion}
 use Rattle.std.specs.List.Sorted.{IsSorted}
+use Rattle.osm_model.specs.declared.object.Object.{Object}
 use Rattle.osm_model.specs.Data.{VersionData}
-use Rattle.osm_model.specs.Order.{version_cmp, version_cmp_total, key_cmp, object_cmp}
+use Rattle.osm_model.specs.Order.{version_cmp, version_cmp_total, key_cmp, object_cmp, object_of, object_order}
 use Rattle.osm_model.specs.Pairwise.{Pairwise}
 use Rattle.osm_model.specs.VersionSet.{VersionSet}
 use Rattle.osm_model.specs.Sets.{contains, from_list}
 use Rattle.osm_model.proofs.SetLaws.{contains-from_list, same_set}
 use Rattle.osm_model.proofs.VersionLaws.{version_cmp-IsAntisymmetric}
+use Rattle.osm_model.proofs.ObjectLaws.{below_is, not_below}
 use Rattle.osm_files.specs.Held.{IsFile, HoldsSorted}
 use Rattle.osm_files.specs.Verdict.{is_below}
 use Rattle.osm_files.proofs.FileLaws.{Rises, rises_sorted, sorted_all}
-use Rattle.osm_merge.specs.declared.object.Object.{Object}
 use Rattle.osm_merge.specs.Members.{union_all}
-use Rattle.osm_merge.specs.Slice.{object_of, object_order, slice_of, span_of, spans, reaches, is_under, is_within, spans_from, slices}
+use Rattle.osm_merge.specs.Slice.{slice_of, span_of, spans, reaches, is_under, is_within, spans_from, slices}
 use Rattle.osm_merge.specs.Slice.{IsWithin}
 use Rattle.osm_merge.specs.ToCome.{VersionsToCome}
 use Rattle.osm_merge.specs.Union as merged
 use Rattle.osm_merge.proofs.PieceLaws.{has_within, sets_within_are_slices}
-use Rattle.osm_merge.proofs.SliceLaws.{Rise, rise, IsAtMost, reaches_lower, below_is, not_below, slices_write_the_whole}
+use Rattle.osm_merge.proofs.SliceLaws.{Rise, rise, IsAtMost, reaches_lower, slices_write_the_whole}
 use Rattle.osm_merge.proofs.UnionAllLaws.{in_union_all}
 use Rattle.osm_mirror.specs.run.Job.{union_of}
 use Rattle.osm_files.specs.declared.format.Format.TheVariants.{Opl}
 use Rattle.osm_files.specs.SortedRun.{IsSplitInto}
 use Rattle.osm_files.specs.Spell.{spell}
-use Rattle.osm_merge.specs.declared.object.Span.{Span}
+use Rattle.osm_merge.specs.declared.span.Span.{Span}
 use Rattle.osm_merge.specs.declared.selection.Selection.{Selection}
 use Rattle.osm_merge.specs.Selected.{selection_of}
 use Rattle.osm_mirror.specs.run.Slices.{SlicesHoldTheFile, AreSlicesWithin, SlicesWriteTheJob}

@@ -41,7 +41,7 @@ use Rattle.osm_files.proofs.HoldLaws.{source_gives_held, whole_source_is_held}
 use Rattle.osm_files.proofs.LoadLaws.{whole_units, gives_file}
 use Rattle.osm_files.proofs.RiseLaws.{source_rises, source_begins_known}
 use Rattle.osm_files.proofs.SpellLaws.{listed_members}
-use Rattle.osm_merge.specs.declared.object.Span.{Span}
+use Rattle.osm_merge.specs.declared.span.Span.{Span}
 use Rattle.osm_merge.specs.declared.within.Outside.{Outside}
 use Rattle.osm_merge.specs.declared.within.Outside.TheVariants.{Dropped, Refused}
 use Rattle.osm_merge.specs.declared.within.State.TheVariants as state

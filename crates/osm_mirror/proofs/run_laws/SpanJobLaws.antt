@@ -18,7 +18,7 @@ use Rattle.osm_files.specs.Output.{Change, Appends}
 use Rattle.osm_files.specs.Sink.{CutShort, WhyCut}
 use Rattle.osm_files.specs.Spell.{spell}
 use Rattle.osm_merge.specs.declared.merge.Counts.{Counts}
-use Rattle.osm_merge.specs.declared.object.Span.{Span}
+use Rattle.osm_merge.specs.declared.span.Span.{Span}
 use Rattle.osm_merge.specs.declared.selection.Selection.{Selection}
 use Rattle.osm_merge.specs.declared.within.Outside.{Outside}
 use Rattle.osm_merge.specs.Giving.{AllGive, SomeInputsGive}

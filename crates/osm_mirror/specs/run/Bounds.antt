@@ -4,14 +4,15 @@ use Rattle.std.specs.Prelude.{ℕ, zero, suc, ◌+◌, ◌-◌, ◌*◌, ◌/◌
 use Rattle.std.specs.Prelude.{◌++◌, length, map, sum_by, Option, Some, None, if◌then◌else◌}
 use Rattle.std.specs.List.{filter, flat_map}
 use Rattle.std.specs.Ordering.{is_lt}
+use Rattle.osm_model.specs.declared.object.Object.{Object}
 use Rattle.osm_model.specs.Data.{VersionData}
+use Rattle.osm_model.specs.Order.{object_of, object_order}
 use Rattle.osm_files.specs.Lines.{lines_from}
 use Rattle.osm_files.specs.O5.{reset_byte}
 use Rattle.osm_files.specs.Units.{InOpl, units}
 use Rattle.osm_files.specs.Verdict.{versions_of}
-use Rattle.osm_merge.specs.declared.object.Object.{Object}
-use Rattle.osm_merge.specs.declared.object.Span.{Span}
-use Rattle.osm_merge.specs.Slice.{object_of, object_order, spans}
+use Rattle.osm_merge.specs.declared.span.Span.{Span}
+use Rattle.osm_merge.specs.Slice.{spans}
 use Rattle.osm_mirror.specs.declared.run.bounds.Found.{Found}
 
 -- ---- the objects that are found in files

@@ -4,6 +4,7 @@ use Rattle.std.specs.Prelude.{Some, IfSome}
 use Rattle.std.specs.Prelude.{if◌then◌else◌}
 use Rattle.std.specs.List.{filter}
 use Rattle.std.specs.List.Sorted.{IsSorted}
+use Rattle.osm_model.specs.declared.object.Object.{Object}
 use Rattle.osm_model.specs.Data.{VersionData}
 use Rattle.osm_model.specs.Order.{key_cmp}
 use Rattle.osm_files.specs.declared.fault.Fault.{Fault}
@@ -11,7 +12,6 @@ use Rattle.osm_files.specs.FileRuns.{IsReadFailure}
 use Rattle.osm_files.specs.Lines.{BeginsLine}
 use Rattle.osm_files.specs.Opl.{OplFile}
 use Rattle.osm_files.specs.Units.{FileStateData, InOpl, BeforeHeader, start_of}
-use Rattle.osm_merge.specs.declared.object.Object.{Object}
 use Rattle.osm_merge.specs.Slice.{reaches, is_under}
 
 -- is the object of the first of some versions below the bound?

@@ -12,7 +12,7 @@ use Rattle.osm_files.specs.Groups.{sorted_source, set_given}
 use Rattle.osm_files.specs.Position.{units_from, with_input}
 use Rattle.osm_files.specs.Stream.{end_refused}
 use Rattle.osm_files.specs.Verdict.{versions_of}
-use Rattle.osm_merge.specs.declared.object.Span.{Span}
+use Rattle.osm_merge.specs.declared.span.Span.{Span}
 use Rattle.osm_merge.specs.ToCome as source
 use Rattle.osm_mirror.specs.declared.run.input.InputFile.{InputFile}
 use Rattle.osm_mirror.specs.declared.run.input.ReadAs.{ReadAs}

@@ -1,11 +1,11 @@
 -- What a search knows of the lines of an OPL file from an offset on: an own rule of this project.
 use Rattle.std.specs.Prelude.{◌≡◌, ◌<◌, ◌≤◌, ◌^◌, ℕ, Bool, false, List, [], ◌∷◌, length, Option, Some, None, IfSome}
 use Rattle.std.specs.Ordering.{is_lt}
+use Rattle.osm_model.specs.declared.object.Object.{Object}
 use Rattle.osm_model.specs.Data.{VersionData}
+use Rattle.osm_model.specs.Order.{object_order}
 use Rattle.osm_files.specs.Lines.{lines_from, line_start_from}
 use Rattle.osm_files.specs.Opl.{OplFile}
-use Rattle.osm_merge.specs.declared.object.Object.{Object}
-use Rattle.osm_merge.specs.Slice.{object_order}
 use Rattle.osm_mirror.specs.declared.run.lines_from.LinesFrom.{LinesFrom}
 use Rattle.osm_mirror.specs.run.Bounds.{object_of_first}
 

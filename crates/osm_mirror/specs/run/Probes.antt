@@ -3,13 +3,13 @@ use Rattle.std.specs.Prelude.{◌≡◌, ℕ, ◌<◌, ◌^◌, Bool, true, List
 use Rattle.std.specs.Prelude.{sum_by}
 use Rattle.std.specs.Ordering.{is_lt}
 use Rattle.std.specs.List.Sorted.{IsSortedBy}
+use Rattle.osm_model.specs.declared.object.Object.{Object}
 use Rattle.osm_model.specs.Data.{VersionData}
 use Rattle.osm_model.specs.Pairwise.{Pairwise}
 use Rattle.osm_model.specs.VersionSet.{VersionSet}
+use Rattle.osm_model.specs.Order.{object_order}
 use Rattle.osm_files.specs.Held.{HoldsSorted}
 use Rattle.osm_files.specs.Opl.{OplFile}
-use Rattle.osm_merge.specs.declared.object.Object.{Object}
-use Rattle.osm_merge.specs.Slice.{object_order}
 use Rattle.osm_mirror.specs.declared.run.bounds.Found.{Found}
 use Rattle.osm_mirror.specs.run.Bounds.{opl_size, probe_count, found_by, found_in, found_in_all}
 

@@ -15,7 +15,7 @@ use Rattle.osm_files.specs.Output.{Change}
 use Rattle.osm_files.specs.Sink.{CutShort}
 use Rattle.osm_files.specs.SortedRun.{offset_in_file}
 use Rattle.osm_files.specs.Spell.{spell}
-use Rattle.osm_merge.specs.declared.object.Span.{Span}
+use Rattle.osm_merge.specs.declared.span.Span.{Span}
 use Rattle.osm_merge.specs.declared.selection.Selection.{Selection}
 use Rattle.osm_merge.specs.Selected.{selection_of}
 use Rattle.osm_mirror.specs.declared.run.files_job.Order.TheVariants.{Sorted}

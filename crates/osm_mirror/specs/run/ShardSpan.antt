@@ -1,7 +1,7 @@
 -- The span of a shard in terms of its two bounds.
 use Rattle.std.specs.Prelude.{ℕ, ◌-◌, ◌==◌, nat_lt, List, Option, Some, None, if◌then◌else◌}
-use Rattle.osm_merge.specs.declared.object.Object.{Object}
-use Rattle.osm_merge.specs.declared.object.Span.{Span}
+use Rattle.osm_model.specs.declared.object.Object.{Object}
+use Rattle.osm_merge.specs.declared.span.Span.{Span}
 use Rattle.osm_merge.specs.Slice.{span_of}
 use Rattle.osm_mirror.specs.declared.run.bounds.Found.{Found}
 use Rattle.osm_mirror.specs.run.Bounds.{bound_of}

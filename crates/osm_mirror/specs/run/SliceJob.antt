@@ -10,7 +10,7 @@ use Rattle.osm_files.specs.Groups.{sorted_source}
 use Rattle.osm_files.specs.Input.{InputRest}
 use Rattle.osm_files.specs.Output.{Change}
 use Rattle.osm_merge.specs.declared.merge.Counts.{Counts}
-use Rattle.osm_merge.specs.declared.object.Span.{Span}
+use Rattle.osm_merge.specs.declared.span.Span.{Span}
 use Rattle.osm_merge.specs.declared.within.Outside.{Outside}
 use Rattle.osm_merge.specs.declared.within.Outside.TheVariants.{Dropped, Refused}
 use Rattle.osm_merge.specs.Merged as merged

@@ -2,17 +2,18 @@
 use Rattle.std.specs.Prelude.{◌≡◌, ℕ, ◌<◌, ◌^◌, List, length, map}
 use Rattle.std.specs.List.{concat}
 use Rattle.std.specs.List.Sorted.{IsSorted}
+use Rattle.osm_model.specs.declared.object.Object.{Object}
 use Rattle.osm_model.specs.VersionSet.{VersionSet}
 use Rattle.osm_model.specs.Pairwise.{Pairwise}
+use Rattle.osm_model.specs.Order.{object_order}
 use Rattle.osm_files.specs.declared.format.Format.TheVariants.{Opl}
 use Rattle.osm_files.specs.Held.{HoldsSorted}
 use Rattle.osm_files.specs.SortedRun.{IsSplitInto}
 use Rattle.osm_files.specs.Spell.{spell}
-use Rattle.osm_merge.specs.declared.object.Object.{Object}
-use Rattle.osm_merge.specs.declared.object.Span.{Span}
+use Rattle.osm_merge.specs.declared.span.Span.{Span}
 use Rattle.osm_merge.specs.declared.selection.Selection.{Selection}
 use Rattle.osm_merge.specs.Selected.{selection_of}
-use Rattle.osm_merge.specs.Slice.{object_order, slice_of, spans, slices, IsWithin}
+use Rattle.osm_merge.specs.Slice.{slice_of, spans, slices, IsWithin}
 use Rattle.osm_mirror.specs.run.Job.{union_of}
 
 -- A file that is split into sorted files, each within its span, is sorted. It holds the union of their sets, and each

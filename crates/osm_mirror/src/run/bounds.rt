@@ -15,7 +15,7 @@ ghost use Rattle.osm_mirror.specs.run.ShardRefusal.{AreRefused, IsFileRefusal};
 use crate::run::lines_from::{LinesFrom, lines_before};
 use crate::run::shard_extent::opl_size;
 use osm_files::{Fault, LENGTH_LIMIT, ReadAt};
-use osm_merge::Object;
+use osm_model::Object;
 use std::alloc::{AllocError, Global};
 
 /// The number of probes for each shard.

@@ -8,7 +8,7 @@ ghost use Rattle.osm_mirror.specs.run.LinesFrom.{is_below};
 use crate::run::lines_from::{LinesFrom, lines_before};
 use opl_line::OplReason;
 use osm_files::{Broken, Fault, ReadAt, Reason};
-use osm_merge::Object;
+use osm_model::Object;
 use std::alloc::Global;
 
 /// The offset at which a sorted OPL file is cut at `bound`. The lines before it have the versions whose objects are

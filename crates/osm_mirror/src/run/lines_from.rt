@@ -8,7 +8,7 @@ ghost use Rattle.osm_mirror.specs.run.CutOffset.{IsCutRefusal};
 ghost use Rattle.osm_mirror.specs.run.LinesFrom.{AreLinesOf};
 
 use osm_files::{Fault, ReadAt, first_version, line_start};
-use osm_merge::Object;
+use osm_model::Object;
 use std::alloc::Global;
 
 /// What is known of the lines of an OPL file that begin at an offset or after it.

@@ -3,7 +3,7 @@
 //! Why: a file that is several sorted files in sequence isn't written up to the second one, and then once more.
 //! Assumes: nothing. The result decides only in which way the file is read.
 use osm_files::{FileSource, ReadAt, SliceIn, Source};
-use osm_merge::Object;
+use osm_model::Object;
 use std::alloc::Global;
 
 /// The number of offsets at which a file is looked at.

@@ -9,7 +9,8 @@ ghost use Rattle.osm_mirror.specs.run.ShardRefusal.{IsFileRefusal};
 
 use crate::run::cut::{begins_as_o5, cut_offset};
 use osm_files::{Broken, Fault, ReadAt, Reason, SortedRun};
-use osm_merge::{Object, Outside, Span};
+use osm_merge::{Outside, Span};
+use osm_model::Object;
 use std::alloc::Global;
 
 /// The size of the largest OPL file that is read whole. It takes less time than two searches for offsets.

@@ -25,7 +25,8 @@ use crate::run::shard::Shard;
 use crate::run::shard_extent::{FileExtent, extent_of};
 use crate::run::slice::{Slice, SliceFile, run_slice};
 use osm_files::{Broken, Fault, Format, FramedExtent, Output, ReadAt, Reason, SortedRun};
-use osm_merge::{Counts, Object, Progress, Selection, Span};
+use osm_merge::{Counts, Progress, Selection, Span};
+use osm_model::Object;
 use std::alloc::Global;
 
 /// The span of all objects.

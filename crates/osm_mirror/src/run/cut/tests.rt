@@ -1,8 +1,7 @@
 //! The offsets at which files are cut at objects.
 use super::cut_offset;
 use osm_files::{Broken, ReadAt};
-use osm_merge::Object;
-use osm_model::Kind;
+use osm_model::{Kind, Object};
 use std::alloc::Global;
 
 /// Versions of two nodes and a way. Their lines begin at 0, 9, 22 and 31.

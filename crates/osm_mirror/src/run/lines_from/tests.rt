@@ -2,8 +2,7 @@
 use crate::run::bounds::find_objects;
 use crate::run::cut::cut_offset;
 use osm_files::{Broken, ReadAt};
-use osm_merge::Object;
-use osm_model::{Kind, Memory};
+use osm_model::{Kind, Memory, Object};
 use std::alloc::Global;
 use std::cell::Cell;
 

@@ -1,8 +1,8 @@
 //! Runs for slices.
 use super::{Slice, SliceFile, run_slice};
 use osm_files::{Format, SliceIn, VecOut};
-use osm_merge::{NoProgress, Object, Outside, Selection, Span};
-use osm_model::Kind;
+use osm_merge::{NoProgress, Outside, Selection, Span};
+use osm_model::{Kind, Object};
 use std::alloc::Global;
 
 /// Versions of three nodes.

@@ -1,7 +1,7 @@
 use Rattle.std.proofs.Common.{rules, ◌≡◌, ◌∙◌, ◌*◌, ◌/◌, max, List, arith, ap, subst}
 use Rattle.std.specs.List.Sorted.{IsPermutation}
 use Rattle.std.proofs.lemmas.List.Sorted.{answers_always, ranks_by, sum_by-IsPermutation}
-use Rattle.osm_merge.proofs.SliceLaws.{order_total}
+use Rattle.osm_model.specs.Order.{object_order_total}
 use Rattle.osm_mirror.specs.declared.run.bounds.Found.{Found}
 use Rattle.osm_mirror.specs.run.Bounds.{step_of, found_in_all}
 use Rattle.osm_mirror.proofs.run_laws.BoundLaws.{lt}
@@ -10,7 +10,7 @@ use Rattle.osm_mirror.proofs.run.bounds.find_objects.Goals as goal
 
 pub returns-clause-ascend : goal.returns-clause-ascend
 returns-clause-ascend g c =
-    c.sort_unstable_by.ensures.sorted (λ x y. lt x.object y.object) (ranks_by order_total (λ f. f.object))
+    c.sort_unstable_by.ensures.sorted (λ x y. lt x.object y.object) (ranks_by object_order_total (λ f. f.object))
     (answers_always _ _ _ (λ f a r q k. search rules))
 
 pub returns-clause-found : goal.returns-clause-found

@@ -1,6 +1,6 @@
 use Rattle.std.proofs.Common.{◌≡◌, ◌∙◌, arith, ap, sym, subst, Option, Some}
 use Rattle.std.proofs.lemmas.Result.{err_from_is_err_and}
-use Rattle.osm_merge.specs.declared.object.Object.{Object}
+use Rattle.osm_model.specs.declared.object.Object.{Object}
 use Rattle.osm_mirror.specs.run.LinesFrom.{AreLinesOf}
 use Rattle.osm_mirror.proofs.run_laws.LinesFromLaws.{object_or, same_lines, more_lines, lines_refuse}
 use Rattle.osm_mirror.proofs.run.lines_from.lines_before.Goals as goal

@@ -1,45 +1,8 @@
-//! Objects, and spans of objects.
+//! Spans of objects.
 ghost use Rattle.std.specs.Prelude.{◌≡◌, ◌&&◌};
-ghost use Rattle.osm_merge.specs.Slice.{object_of, object_order, reaches, is_under, is_within, is_ascending};
+ghost use Rattle.osm_merge.specs.Slice.{reaches, is_under, is_within, is_ascending};
 
-use osm_model::{Kind, Version};
-use std::cmp::Ordering;
-
-/// An object: its kind and its id. Versions with the same kind and id are versions of one object.
-#[derive(Clone, Copy, Debug, PartialEq, Eq)]
-pub struct Object {
-    pub kind: Kind,
-    pub id: i64,
-}
-
-impl Object {
-    /// The object of a version.
-    #[inline(always)]
-    pub fn of(version: &Version) -> Object
-        ensures { result ≡ object_of version.now }
-    {
-        Object {
-            kind: version.kind(),
-            id: version.id(),
-        }
-    }
-
-    /// The order of objects: the kind; then ids up to 0 before ids above 0; then the absolute value of the id.
-    #[inline(always)]
-    pub fn order(&self, other: &Object) -> Ordering
-        ensures { result ≡ object_order self.now other.now }
-    {
-        let kind = self.kind.index().cmp(&other.kind.index());
-        if kind != Ordering::Equal {
-            return kind;
-        }
-        let positive = (self.id > 0).cmp(&(other.id > 0));
-        if positive != Ordering::Equal {
-            return positive;
-        }
-        self.id.unsigned_abs().cmp(&other.id.unsigned_abs())
-    }
-}
+use osm_model::{Object, Version};
 
 /// The objects of a slice: from a lower bound (inclusive) to an upper bound (exclusive). `None` is no bound.
 #[derive(Clone, Copy, Debug, PartialEq, Eq)]
