@@ -1,7 +1,7 @@
 //! A file read in three ways: only its units, through a `FileSource` to its end, and by `load_any`.
 use super::rate::megabytes;
 use anyhow::{Result, bail};
-use o5_codec::{Decoder, read_number};
+use o5_codec::{Decoder, SEGMENT_RESET, read_number};
 use opl_line::{find_line_end, read_line};
 use osm_files::{FileSource, Format, SliceIn, Source, load_any};
 use osm_model::Kind;
@@ -48,7 +48,7 @@ fn read_data_sets(alloc: Global, bytes: &[u8]) -> Result<u64> {
         let Some((byte, after)) = rest.split_first() else {
             break;
         };
-        if *byte == 0xff {
+        if *byte == SEGMENT_RESET {
             decoder.reset();
         }
         if *byte >= 0xf0 {
