@@ -2,12 +2,9 @@
 use super::input::{OpenInput, Watch};
 use super::target::STANDARD;
 use super::{Host, Refusal};
-use osm_files::ReadAt;
+use osm_files::{O5_START, ReadAt};
 use std::fs;
 use std::io::Read;
-
-/// The first byte of o5 files.
-const O5_START: u8 = 0xff;
 
 /// Refuses names of files that aren't regular. So no pipe is opened, which would wait.
 pub(super) fn refuse_irregular<'a>(rt: &impl Host, names: &[&'a str]) -> Result<(), Refusal<'a>> {

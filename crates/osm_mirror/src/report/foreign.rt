@@ -1,6 +1,7 @@
 //! What a refused file is, by its first bytes: OPL, a data set of o5, or a file of another format.
 
 use crate::report::shown::{Escaped, Quoted};
+use osm_files::O5_START;
 use std::fmt;
 use std::fmt::{Display, Formatter};
 
@@ -68,8 +69,8 @@ pub fn content_of<'a>(name: &'a str, head: &[u8], is_cut: bool) -> Content<'a> {
         [0xef, 0xbb, 0xbf, ..] => {
             Content::Other("begins with a byte order mark: OPL is UTF-8 without one")
         }
-        [0xff, ..] if !is_cut => Content::DataSet,
-        [0xff, ..] => Content::Other(CUT),
+        [O5_START, ..] if !is_cut => Content::DataSet,
+        [O5_START, ..] => Content::Other(CUT),
         [0x1f, 0x8b, ..] | [b'B', b'Z', b'h', ..] if is_xml => foreign(
             name,
             "compressed XML",

@@ -7,7 +7,7 @@ ghost use Rattle.osm_mirror.specs.run.LinesFrom.{is_below};
 
 use crate::run::lines_from::{LinesFrom, lines_before};
 use opl_line::OplReason;
-use osm_files::{Broken, Fault, ReadAt, Reason};
+use osm_files::{Broken, Fault, O5_START, ReadAt, Reason};
 use osm_model::Object;
 use std::alloc::Global;
 
@@ -74,7 +74,7 @@ pub(crate) fn begins_as_o5<F: ReadAt>(file: &F, input: usize, offset: u64) -> Re
     let mut byte = [0u8; 1];
     match file.read_at(&mut byte, offset) {
         Ok(0) => Ok(false),
-        Ok(_) => Ok(byte[0] == 0xff),
+        Ok(_) => Ok(byte[0] == O5_START),
         Err(Broken) => Err(Fault::at(input, offset, Reason::ReadFault)),
     }
 }
