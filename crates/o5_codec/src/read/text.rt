@@ -43,7 +43,8 @@ fn to_str(bytes: &[u8]) -> Result<&str, O5Reason>
     any_to_str(bytes)
 }
 
-/// A string with any characters as a `&str`. This is a function of its own only for the optimizer.
+/// A string with any characters as a `&str`. This is a function of its own only for the optimizer, since most strings
+/// are ASCII. Five such functions of this crate bring 5 percent of a merge of o5m files.
 #[inline(never)]
 fn any_to_str(bytes: &[u8]) -> Result<&str, O5Reason>
     ensures text { O5Gives (λ text. chars text.now) (text_of bytes.now) result }

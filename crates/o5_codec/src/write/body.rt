@@ -46,21 +46,8 @@ impl EncoderSegment {
         }
     }
 
-    #[inline(always)]
-    fn append_tags(&mut self, out: &mut SetBuffer, tags: &[Tag]) -> Result<(), Memory>
-        ensures { OnOk result (AppendsSpelling out.old out.new self.new (spec.tags_spelling tags.now self.old)) }
-    {
-        if tags.is_empty() {
-            return Ok(());
-        }
-        self.append_each_tag(out, tags)
-    }
-
-    /// Appends the tags, which are not empty. This is a function of its own only for the optimizer, since most objects
-    /// have no tags.
-    #[inline(never)]
     #[tactic(auto, unfolding(crate::specs::Writing::tags_spelling))]
-    fn append_each_tag(&mut self, out: &mut SetBuffer, tags: &[Tag]) -> Result<(), Memory>
+    fn append_tags(&mut self, out: &mut SetBuffer, tags: &[Tag]) -> Result<(), Memory>
         ensures { OnOk result (AppendsSpelling out.old out.new self.new (spec.tags_spelling tags.now self.old)) }
     {
         for tag in tags {
