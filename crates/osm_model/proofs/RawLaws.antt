@@ -1,11 +1,10 @@
 -- The raw characters at the front of a text.
 use Rattle.std.proofs.Common.{◌≡◌, ◌⊎◌, ℕ, zero, suc, ◌-◌, Bool, T, eqb, eqb→eq, eq-zero-or-pos, inl, inr, ◌+◌, ◌/◌, ◌%◌, ◌<◌, ◌≤◌, true}
 use Rattle.std.proofs.Common.{false, cond, ltb, leb, ◌&&◌, List, [], ◌∷◌, ◌++◌, length, get_or, take, drop, refl, sym, ap, ◌∙◌, subst}
-use Rattle.std.proofs.Common.{arith, append_assoc, if◌then◌else◌, ⊎_elim, add_assoc, add-zero, ◌≢◌}
+use Rattle.std.proofs.Common.{arith, append_assoc, if◌then◌else◌, ⊎_elim, add_assoc, ◌≢◌}
 use Rattle.std.proofs.lemmas.Bool.Decides.{nat_tests}
 use Rattle.std.proofs.lemmas.Bool.{ltb-true, ltb-false, leb-true, and_parts, cases_lt}
 use Rattle.std.proofs.lemmas.List.{append-nil, take_all, take-append-drop, take_at, length-append, drop_all, length-drop, length-take-le}
-use Rattle.std.proofs.lemmas.List.{get_or-drop}
 use Rattle.std.proofs.lemmas.List.Sums.{take_while-cons}
 use Rattle.std.proofs.lemmas.Str.{chars-nil, chars_past_char, drop_past_char, IsUtf8-past_char, length-encode, len_utf8_ascii}
 use Rattle.std.specs.Char.{len_utf8}
@@ -15,7 +14,7 @@ use Rattle.std.specs.List.{take_while}
 use lib.Utf8.{encode, encodes}
 use lib.Ieee.Fits.{and_l, and_r}
 use Rattle.osm_model.specs.declared.escape.TheConstants.{RAW_BYTES}
-use Rattle.osm_model.specs.Escape.{is_raw, is_raw_byte, are_raw_bytes, escape, raw_width, raw_length, IsPlain}
+use Rattle.osm_model.specs.Escape.{is_raw, escape, raw_width, raw_length, IsPlain}
 use Rattle.osm_model.proofs.EscapeLaws.{escape_char-raw}
 
 -- The width of a text's first character, from its first two bytes. A character of one byte is that byte. A character of two bytes of which
@@ -222,26 +221,3 @@ pub raw_byte_at : (byte : ℕ) → byte < 256 → eqb (get_or RAW_BYTES byte 0) 
 raw_byte_at byte small =
     rw (raw_bytes_below 256 byte tt small) (elim (is_raw byte && ltb byte 0x80) as
     (λ b. eqb (cond b 1 0) 1 ≡ b) [ true ↦ refl | false ↦ refl ])
-
--- raw characters, and one more of one byte
-plain_byte : (bs : List ℕ) (n : ℕ) → IsPlainTo bs n → n < length bs → is_raw_byte (get_or bs n 0) ≡ true → IsPlainTo bs (n + 1)
-plain_byte bs n so_far more raw =
-    let some : 0 < length (drop n bs) = omega (arith, length-drop n bs) in
-    let first : get_or (drop n bs) 0 0 ≡ get_or bs n 0 = get_or-drop n bs 0 0 ∙ ap (λ k. get_or bs k 0) (add-zero n) in
-    let width : 1 ≡ raw_width (chars (drop n bs)) = width-byte _ _ _ _ (lead (drop n bs) some so_far.utf8) (ap is_raw_byte first ∙ raw) in
-    plain_more bs n 1 so_far more width (λ e. absurd (omega (arith, e)))
-
--- Four raw bytes after raw characters extend them.
-pub plain_four : (bs : List ℕ) (n : ℕ) → IsPlainTo bs n → n + 4 ≤ length bs → are_raw_bytes bs n ≡ true → IsPlainTo bs (n + 4)
-plain_four bs n so_far room raw =
-    let first : n < length bs = omega (arith, room) in
-    let second : n + 1 < length bs = omega (arith, room) in
-    let third : n + 2 < length bs = omega (arith, room) in
-    let fourth : n + 3 < length bs = omega (arith, room) in
-    let one = and_parts _ _ raw in
-    let two = and_parts _ _ one.1 in
-    let three = and_parts _ _ two.1 in
-    let at_one = plain_byte bs n so_far first one.0 in
-    let at_two = subst (IsPlainTo bs) (add_assoc n 1 1) (plain_byte bs (n + 1) at_one second two.0) in
-    let at_three = subst (IsPlainTo bs) (add_assoc n 2 1) (plain_byte bs (n + 2) at_two third three.0) in
-    subst (IsPlainTo bs) (add_assoc n 3 1) (plain_byte bs (n + 3) at_three fourth three.1)

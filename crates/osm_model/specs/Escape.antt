@@ -1,6 +1,6 @@
 -- The characters of a text in OPL. The form of an escape is that of the OPL manual. Two rules are this project's own:
 -- the characters that are raw, and the number of digits of an escape.
-use Rattle.std.specs.Prelude.{◌≡◌, ℕ, Bool, nat_lt, ◌+◌, ◌&&◌, ◌||◌, List, [], ◌∷◌, ◌++◌, length, slice_index}
+use Rattle.std.specs.Prelude.{◌≡◌, ℕ, Bool, nat_lt, ◌&&◌, ◌||◌, List, [], ◌∷◌, ◌++◌, length}
 use Rattle.std.specs.Prelude.{encode_utf8, encode_utf8_all, if◌then◌else◌}
 use Rattle.std.specs.Char.{len_utf8}
 use Rattle.std.specs.Str.{chars}
@@ -17,12 +17,6 @@ is_raw c =
 -- the bytes that are a raw character by themselves
 abbrev pub is_raw_byte : ℕ → Bool
 is_raw_byte b = is_raw b && nat_lt b 0x80
-
--- the four bytes from an offset on are raw characters by themselves
-abbrev pub are_raw_bytes : List ℕ → ℕ → Bool
-are_raw_bytes bs n =
-    is_raw_byte (slice_index bs n) && (is_raw_byte (slice_index bs (n + 1))
-    && (is_raw_byte (slice_index bs (n + 2)) && is_raw_byte (slice_index bs (n + 3))))
 
 -- the least number of digits in an escape
 abbrev pub escape_width : ℕ → ℕ

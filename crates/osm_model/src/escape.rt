@@ -51,12 +51,6 @@ pub(crate) fn raw_length(text: &str) -> usize
 {
     let bytes = text.as_bytes();
     let mut length = 0;
-    'fours: while bytes.len() - length >= 4 {
-        if !are_raw_bytes(bytes, length) {
-            break 'fours;
-        }
-        length += 4;
-    }
     'characters: while length < bytes.len() {
         let width = raw_width(&bytes[length..]);
         if width == 0 {
@@ -92,18 +86,6 @@ static RAW_BYTES: [u8; 256] = [
     0, 0, 0, 0, 0, 0, 0, 0, 0, 0, 0, 0, 0, 0, 0, 0, 0, 0, 0, 0, 0, 0, 0, 0, 0, 0, 0, 0, 0, 0, 0, 0,
     0, 0, 0, 0, 0, 0, 0, 0, 0, 0, 0, 0, 0, 0, 0, 0, 0, 0, 0, 0, 0, 0, 0, 0, 0, 0, 0, 0, 0, 0, 0, 0,
 ];
-
-/// Whether each of the four bytes from `from` on is a raw character by itself.
-#[inline(always)]
-fn are_raw_bytes(bytes: &[u8], from: usize) -> bool
-    requires { from + 4 ≤ length bytes.now }
-    ensures { result ≡ spec.are_raw_bytes bytes.now from }
-{
-    is_raw_byte(bytes[from])
-        && is_raw_byte(bytes[from + 1])
-        && is_raw_byte(bytes[from + 2])
-        && is_raw_byte(bytes[from + 3])
-}
 
 /// Whether a byte is a raw character by itself.
 fn is_raw_byte(byte: u8) -> bool

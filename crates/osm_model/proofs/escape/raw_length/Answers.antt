@@ -1,9 +1,9 @@
-use Rattle.std.proofs.Common.{◌≡◌, ℕ, List, drop, take, length, ◌-◌, ◌+◌, ◌≤◌, true, rules, ap, ◌∙◌}
+use Rattle.std.proofs.Common.{◌≡◌, ℕ, List, drop, take, length, ◌-◌, rules, ap, ◌∙◌}
 use Rattle.std.specs.Str.{chars}
 use Rattle.std.proofs.lemmas.List.{take_rest}
 use Rattle.std.proofs.lemmas.Str.{IsCharBoundary-from_drop}
-use Rattle.osm_model.specs.Escape.{raw_width, are_raw_bytes}
-use Rattle.osm_model.proofs.RawLaws.{plain_more, plain_four, plain_all}
+use Rattle.osm_model.specs.Escape.{raw_width}
+use Rattle.osm_model.proofs.RawLaws.{plain_more, plain_all}
 use Rattle.osm_model.proofs.escape.raw_length.Goals as goal
 
 -- the width of the character after an offset
@@ -22,9 +22,3 @@ characters-preserved c =
 
 pub returns-clause-length : goal.returns-clause-length
 returns-clause-length c = plain_all c.args.text.now c.characters.length c.characters.invariant (search rules)
-
-pub fours-preserved : goal.fours-preserved
-fours-preserved c =
-    let room : c.fours.length + 4 ≤ length c.args.text.now = search rules in
-    let raw : are_raw_bytes c.args.text.now c.fours.length ≡ true = search rules in
-    plain_four c.args.text.now c.fours.length c.fours.invariant room raw

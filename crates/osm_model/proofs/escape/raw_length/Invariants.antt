@@ -2,12 +2,6 @@ use Rattle.std.proofs.Common.{◌-◌, length}
 use Rattle.osm_model.proofs.RawLaws.{IsPlainTo}
 use Rattle.osm_model.proofs.escape.raw_length.Given as goal
 
-abbrev pub invariant-fours : goal.invariant-fours
-invariant-fours l = IsPlainTo l.text l.length
-
-abbrev pub decreases-fours : goal.decreases-fours
-decreases-fours l = length l.text - l.length
-
 abbrev pub invariant-characters : goal.invariant-characters
 invariant-characters l = IsPlainTo l.text l.length
 
