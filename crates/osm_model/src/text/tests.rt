@@ -1,6 +1,6 @@
 //! Texts that were tested whether they are plain.
 use crate::same::Same;
-use crate::{Body, Kind, Meta, Tags, Text, Version};
+use crate::{Body, Kind, Meta, Text, Version};
 use std::alloc::Global;
 use std::test::Fail;
 
@@ -27,11 +27,6 @@ fn tested(alloc: Global, characters: &str) -> Result<Text, Fail> {
 
 /// The line of a deletion by `user`.
 fn line(alloc: Global, user: Text) -> Result<Vec<u8>, Fail> {
-    line_with(alloc, user, Body::Deleted(Kind::Node))
-}
-
-/// The line of a version with `body`, by `user`.
-fn line_with(alloc: Global, user: Text, body: Body) -> Result<Vec<u8>, Fail> {
     let meta = Meta {
         version: 1,
         time: Some(1),
@@ -39,76 +34,73 @@ fn line_with(alloc: Global, user: Text, body: Body) -> Result<Vec<u8>, Fail> {
         uid: 1,
         user,
     };
-    let version = Version::new(alloc, 1, meta, body)?;
+    let version = Version::new(alloc, 1, meta, Body::Deleted(Kind::Node))?;
     let mut out = Vec::new(alloc);
     version.append_line(&mut out)?;
     Ok(out)
+}
+
+/// Whether a tested text has these characters and equals `other`, which wasn't tested, and whether it is plain.
+fn compared(text: &Text, other: &Text, characters: &str) -> (bool, bool) {
+    let is_equal = text.as_str() == characters && text.is_same(other) && other.is_same(text);
+    (is_equal && other.plain().is_none(), text.plain().is_some())
+}
+
+/// Whether the line of a deletion by `user` has `escaped` as the user's name.
+fn is_written(alloc: Global, user: Text, escaped: &str) -> Result<bool, Fail> {
+    let line = line(alloc, user)?;
+    let expected = format!(in alloc; "n1 v1 dD c1 t1970-01-01T00:00:01Z i1 u{escaped} T x y")?;
+    Ok(line.as_slice() == expected.as_bytes())
 }
 
 #[test]
 fn a_test_changes_no_text(rt: HostRuntime) -> Result<(), Fail> {
     let alloc = rt.alloc();
     for (characters, escaped, is_plain) in TEXTS {
-        let text = tested(alloc, characters)?;
-        let other = Text::from_str(alloc, characters)?;
         assert_eq!(rt;
-            (text.plain().is_some(), other.plain().is_some()),
-            (is_plain, false)
+            compared(
+                &tested(alloc, characters)?,
+                &Text::from_str(alloc, characters)?,
+                characters
+            ),
+            (true, is_plain)
         );
-        assert_eq!(rt; text.as_str(), characters);
-        assert!(rt; text.is_same(&other) && other.is_same(&text));
-        let expected = format!(in alloc; "n1 v1 dD c1 t1970-01-01T00:00:01Z i1 u{escaped} T x y")?;
-        let line_of_text = line(alloc, text)?;
-        assert_eq!(rt; line_of_text.as_slice(), expected.as_bytes());
-        assert_eq!(rt; line_of_text, line(alloc, other)?);
+        assert!(rt; is_written(alloc, tested(alloc, characters)?, escaped)?);
+        assert!(rt; is_written(alloc, Text::from_str(alloc, characters)?, escaped)?);
     }
     Ok(())
 }
 
-/// A node without tags.
-fn bare_node(alloc: Global) -> Body {
-    Body::Node {
-        lon: 95_400_001,
-        lat: -5_000_000,
-        tags: Tags::from_vec(Vec::new(alloc)),
-    }
-}
-
-#[test]
-fn a_node_without_tags_has_one_line(rt: HostRuntime) -> Result<(), Fail> {
-    let alloc = rt.alloc();
-    for (characters, escaped, _) in TEXTS {
-        let expected = format!(in alloc;
-            "n1 v1 dV c1 t1970-01-01T00:00:01Z i1 u{escaped} T x9.5400001 y-0.5"
-        )?;
-        let text = tested(alloc, characters)?;
-        assert_eq!(rt;
-            line_with(alloc, text, bare_node(alloc))?.as_slice(),
-            expected.as_bytes()
-        );
-    }
-    Ok(())
+/// Replaces `target` by a tested text. Returns whether it then has its characters, and whether `target` and a copy of
+/// the text are plain.
+fn copied(alloc: Global, target: &mut Text, characters: &str) -> Result<(bool, bool, bool), Fail> {
+    let text = tested(alloc, characters)?;
+    text.copy_into(target)?;
+    let is_plain = text.copy()?.plain().is_some();
+    Ok((
+        target.as_str() == characters,
+        target.plain().is_some(),
+        is_plain,
+    ))
 }
 
 #[test]
 fn copies_of_plain_texts_are_plain(rt: HostRuntime) -> Result<(), Fail> {
-    let alloc = rt.alloc();
-    let (plain, other) = (tested(alloc, "ä")?, tested(alloc, "a b")?);
-    assert!(rt; plain.copy()?.plain().is_some());
     let mut target = Text::new();
-    for (text, is_plain) in [
-        (&plain, true),
-        (&plain, true),
-        (&other, false),
-        (&plain, true),
-    ] {
-        text.copy_into(&mut target)?;
+    for (characters, is_plain) in [("ä", true), ("ä", true), ("a b", false), ("ä", true)] {
         assert_eq!(rt;
-            (target.as_str(), target.plain().is_some()),
-            (text.as_str(), is_plain)
+            copied(rt.alloc(), &mut target, characters)?,
+            (true, is_plain, is_plain)
         );
     }
     Ok(())
+}
+
+/// Whether a plain text that grows by `more` has the characters `whole`, and isn't plain.
+fn grows_to(alloc: Global, more: &str, whole: &str) -> Result<bool, Fail> {
+    let mut text = tested(alloc, "a")?;
+    text.push_str(alloc, more)?;
+    Ok(text.as_str() == whole && text.plain().is_none())
 }
 
 #[test]
@@ -121,9 +113,7 @@ fn what_is_after_a_plain_text_may_not_be(rt: HostRuntime) -> Result<(), Fail> {
             "a of which not all lies within",
         ),
     ] {
-        let mut text = tested(alloc, "a")?;
-        text.push_str(alloc, more)?;
-        assert_eq!(rt; (text.as_str(), text.plain().is_some()), (whole, false));
+        assert!(rt; grows_to(alloc, more, whole)?);
     }
     Ok(())
 }
