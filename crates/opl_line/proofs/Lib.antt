@@ -32,9 +32,9 @@ pub mod LaneLaws
 pub mod ScanLaws
 pub mod PlainLaws
 pub mod AsciiLaws
-pub mod CanonicalPartLaws
-pub mod CanonicalTextLaws
-pub mod CanonicalTimeLaws
-pub mod CanonicalListLaws
-pub mod CanonicalLineLaws
+pub mod StraightPartLaws
+pub mod StraightTextLaws
+pub mod StraightTimeLaws
+pub mod StraightListLaws
+pub mod StraightLineLaws
 pub mod StartLaws

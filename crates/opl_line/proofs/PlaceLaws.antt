@@ -18,7 +18,7 @@ use Rattle.opl_line.specs.Time.{reading_time}
 use Rattle.opl_line.specs.Content.{SpellsNumeral, SpellsTime, SpellsDegrees, whole_degrees, with_decimals, SpellsCoordinate, plain_degrees}
 use Rattle.opl_line.specs.Content.{minus_degrees, SpellsOptionalCoordinate, no_place, some_place}
 use Rattle.opl_line.proofs.ResultLaws.{both, became}
-use Rattle.opl_line.proofs.CanonicalTimeLaws.{time_canonical, no_time}
+use Rattle.opl_line.proofs.StraightTimeLaws.{time_canonical, no_time}
 use Rattle.opl_line.proofs.ContentLaws.{all_weaker}
 use Rattle.opl_line.proofs.CoordinateLaws.{no_point}
 use Rattle.opl_line.proofs.CutLaws.{split_front, split_never}

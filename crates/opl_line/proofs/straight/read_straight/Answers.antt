@@ -7,7 +7,7 @@ use Rattle.osm_model.specs.Data.{VersionData, version_of}
 use Rattle.osm_model.specs.New.{is_dated}
 use Rattle.osm_model.specs.Valid.{IsVersion}
 use Rattle.opl_line.specs.Reading.{reading_line}
-use Rattle.opl_line.proofs.CanonicalLineLaws.{no_fault, is_read}
+use Rattle.opl_line.proofs.StraightLineLaws.{no_fault, is_read}
 use Rattle.opl_line.proofs.straight.read_straight.Goals as goal
 
 pub from_checked_data-requires : goal.from_checked_data-requires

@@ -2,7 +2,7 @@ use Rattle.std.proofs.Common.{◌≡◌, ◌++◌, ◌&&◌, true, rules}
 use Rattle.std.specs.List.{list_all}
 use Rattle.osm_model.specs.Text.{is_text}
 use Rattle.osm_model.specs.Line.{list_text, tag_text}
-use Rattle.opl_line.proofs.CanonicalLineLaws.{node_tail, way_tail, relation_tail}
+use Rattle.opl_line.proofs.StraightLineLaws.{node_tail, way_tail, relation_tail}
 use Rattle.opl_line.proofs.straight.read_tail.Goals as goal
 
 pub returns-in_ok-lon-in-Node : goal.returns-in_ok-lon-in-Node

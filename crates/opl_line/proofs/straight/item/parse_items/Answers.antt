@@ -1,6 +1,6 @@
 use Rattle.std.proofs.Common.{◌≡◌, ◌∷◌, ◌++◌, [], sym, ap, ◌∙◌, rules, append_assoc}
 use Rattle.osm_model.specs.Line.{list_text}
-use Rattle.opl_line.proofs.CanonicalListLaws.{with_commas, list_ends}
+use Rattle.opl_line.proofs.StraightListLaws.{with_commas, list_ends}
 use Rattle.opl_line.proofs.straight.item.parse_items.Goals as goal
 
 pub returns-then-is_empty-clause-text : goal.returns-then-is_empty-clause-text

@@ -1,6 +1,6 @@
 use Rattle.std.proofs.Common.{◌≡◌, ◌++◌, true, length}
 use Rattle.std.specs.List.{list_all}
-use Rattle.opl_line.proofs.CanonicalListLaws.{with_commas}
+use Rattle.opl_line.proofs.StraightListLaws.{with_commas}
 use Rattle.opl_line.proofs.straight.item.parse_items.Given as goal
 
 abbrev pub invariant-items : goal.invariant-items

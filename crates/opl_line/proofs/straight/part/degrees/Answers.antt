@@ -1,7 +1,7 @@
 use Rattle.std.proofs.Common.{◌++◌, sym, ap, ◌∙◌, append_assoc}
 use Rattle.osm_model.specs.Decimal.{number_text}
 use Rattle.osm_model.specs.Coordinate.{fraction_text}
-use Rattle.opl_line.proofs.CanonicalPartLaws.{degrees_read}
+use Rattle.opl_line.proofs.StraightPartLaws.{degrees_read}
 use Rattle.opl_line.proofs.straight.part.degrees.Goals as goal
 
 pub returns-clause-text : goal.returns-clause-text

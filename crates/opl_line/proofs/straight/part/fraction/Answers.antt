@@ -1,6 +1,6 @@
 use Rattle.std.proofs.Common.{◌++◌, arith, sym, ap}
 use Rattle.std.proofs.lemmas.List.{take_rest}
-use Rattle.opl_line.proofs.CanonicalPartLaws.{fraction_front, fraction_fits, no_fraction}
+use Rattle.opl_line.proofs.StraightPartLaws.{fraction_front, fraction_fits, no_fraction}
 use Rattle.opl_line.proofs.straight.part.fraction.Goals as goal
 
 pub returns-then-is_empty-clause-text : goal.returns-then-is_empty-clause-text

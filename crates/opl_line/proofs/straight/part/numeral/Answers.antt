@@ -2,7 +2,7 @@ use Rattle.std.proofs.Common.{◌≡◌, ◌≢◌, ◌<◌, ◌++◌, length, t
 use Rattle.std.proofs.lemmas.Bool.{eqb-false}
 use Rattle.std.proofs.lemmas.List.{take-append-drop, take_rest, length-take-le}
 use Rattle.osm_model.specs.Decimal.{number_text}
-use Rattle.opl_line.proofs.CanonicalPartLaws.{numeral_text, no_zero}
+use Rattle.opl_line.proofs.StraightPartLaws.{numeral_text, no_zero}
 use Rattle.opl_line.proofs.straight.part.numeral.Goals as goal
 use Rattle.opl_line.proofs.straight.part.numeral.Goals.{then-length-gt1, else-length-gt1}
 

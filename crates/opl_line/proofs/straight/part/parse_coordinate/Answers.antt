@@ -3,7 +3,7 @@ use mir.Syntax.{w32}
 use Rattle.std.proofs.Common.{◌≡◌, ◌<◌, true, Ok, ◌++◌, sym, ap, ◌∙◌, rules}
 use Rattle.osm_model.specs.Coordinate.{degrees_text, coordinate_text}
 use Rattle.opl_line.specs.Number.{is_negative, without_sign, reading_units}
-use Rattle.opl_line.proofs.CanonicalPartLaws.{place_read, place_is, some_signed}
+use Rattle.opl_line.proofs.StraightPartLaws.{place_read, place_is, some_signed}
 use Rattle.opl_line.proofs.straight.part.parse_coordinate.Goals as goal
 
 pub returns : goal.returns

@@ -1,7 +1,7 @@
 use Rattle.std.proofs.Common.{◌≡◌, ◌<◌, true, ◌++◌, sym, ap, ◌∙◌, rules}
 use Rattle.osm_model.specs.Decimal.{number_text, integer_text}
 use Rattle.opl_line.specs.Number.{is_negative, without_sign, with_sign}
-use Rattle.opl_line.proofs.CanonicalPartLaws.{integer_read, some_signed}
+use Rattle.opl_line.proofs.StraightPartLaws.{integer_read, some_signed}
 use Rattle.opl_line.proofs.straight.part.parse_id.Goals as goal
 use Rattle.opl_line.proofs.straight.part.parse_id.Goals.{then-is_negative-2, else-is_negative-2}
 

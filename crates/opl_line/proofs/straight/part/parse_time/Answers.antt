@@ -1,7 +1,7 @@
 use Rattle.std.proofs.Common.{◌≡◌, ◌++◌, take, Ok, rules, sym, ap, ◌∙◌}
 use Rattle.std.proofs.lemmas.List.{take-append-drop, take_rest}
 use Rattle.opl_line.specs.Time.{reading_time}
-use Rattle.opl_line.proofs.CanonicalTimeLaws.{time_canonical, no_time}
+use Rattle.opl_line.proofs.StraightTimeLaws.{time_canonical, no_time}
 use Rattle.opl_line.proofs.straight.part.parse_time.Goals as goal
 
 pub returns-then-text-lt-TIME_LENGTH-clause-text : goal.returns-then-text-lt-TIME_LENGTH-clause-text

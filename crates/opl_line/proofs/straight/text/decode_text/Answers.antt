@@ -1,7 +1,7 @@
 use Rattle.std.proofs.Common.{◌≡◌, ◌++◌, rules}
 use Rattle.std.specs.Str.{chars}
 use Rattle.std.specs.Char.{encode_utf8}
-use Rattle.opl_line.proofs.CanonicalTextLaws.{IsReadTo, read_raw, read_escape, shorter}
+use Rattle.opl_line.proofs.StraightTextLaws.{IsReadTo, read_raw, read_escape, shorter}
 use Rattle.opl_line.proofs.straight.text.decode_text.Goals as goal
 
 pub returns-then-is_empty-clause-text : goal.returns-then-is_empty-clause-text

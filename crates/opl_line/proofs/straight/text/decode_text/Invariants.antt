@@ -1,5 +1,5 @@
 use Rattle.std.proofs.Common.{length}
-use Rattle.opl_line.proofs.CanonicalTextLaws.{IsReadTo}
+use Rattle.opl_line.proofs.StraightTextLaws.{IsReadTo}
 use Rattle.opl_line.proofs.straight.text.decode_text.Given as goal
 
 abbrev pub invariant-escapes : goal.invariant-escapes

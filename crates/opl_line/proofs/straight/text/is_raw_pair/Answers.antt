@@ -1,5 +1,5 @@
 use Rattle.std.proofs.Common.{arith}
-use Rattle.opl_line.proofs.CanonicalTextLaws.{latin_pair, other_pair}
+use Rattle.opl_line.proofs.StraightTextLaws.{latin_pair, other_pair}
 use Rattle.opl_line.proofs.straight.text.is_raw_pair.Goals as goal
 
 pub returns-in-161-to-191 : goal.returns-in-161-to-191

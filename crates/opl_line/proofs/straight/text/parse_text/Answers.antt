@@ -1,6 +1,6 @@
 use Rattle.std.proofs.Common.{◌≡◌, take, sym, subst, rules}
 use Rattle.osm_model.specs.Escape.{IsPlain}
-use Rattle.opl_line.proofs.CanonicalTextLaws.{raw_bytes, raw_plain, raw_utf8, read_front}
+use Rattle.opl_line.proofs.StraightTextLaws.{raw_bytes, raw_plain, raw_utf8, read_front}
 use Rattle.opl_line.proofs.straight.text.parse_text.Goals as goal
 
 pub from_utf8_unchecked-raw-requires : goal.from_utf8_unchecked-raw-requires

@@ -1,7 +1,7 @@
 use Rattle.std.proofs.Common.{take, drop, arith, length-drop, subst}
 use Rattle.std.proofs.lemmas.List.{take_rest}
 use Rattle.opl_line.specs.Straight.{AreRaw}
-use Rattle.opl_line.proofs.CanonicalTextLaws.{raw_next, raw_utf8}
+use Rattle.opl_line.proofs.StraightTextLaws.{raw_next, raw_utf8}
 use Rattle.opl_line.proofs.straight.text.split_raw.Goals as goal
 
 pub characters-preserved : goal.characters-preserved

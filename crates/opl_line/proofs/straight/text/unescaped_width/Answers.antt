@@ -1,5 +1,5 @@
 use Rattle.std.proofs.Common.{rules}
-use Rattle.opl_line.proofs.CanonicalTextLaws.{raw_first}
+use Rattle.opl_line.proofs.StraightTextLaws.{raw_first}
 use Rattle.opl_line.proofs.straight.text.unescaped_width.Goals as goal
 
 pub returns-then-is_raw_byte-clause-raw : goal.returns-then-is_raw_byte-clause-raw
