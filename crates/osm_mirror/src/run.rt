@@ -34,6 +34,7 @@ pub use any_order::{run_apply, run_period_filter, run_sort, run_time_filter};
 pub use check::{CheckReport, Checked, run_check, run_check_sorted, run_tally, run_tally_sorted};
 pub use cut::cut_offset;
 pub use files_job::{FilesJob, JobFile, Order, run_files};
+pub(crate) use input::files_as;
 pub use input::{InputFile, ReadAs};
 pub use merge::run_merge;
 pub use names::{NamesFault, read_names};
