@@ -1,11 +1,10 @@
 //! The version met last, and the decision which versions are written.
-ghost use Rattle.std.specs.Prelude.{◌≡◌, ◌≤◌, ◌+◌, true, false, None, IfOk, IfSome, OnOk, option_copied};
+ghost use Rattle.std.specs.Prelude.{◌≡◌, ◌≤◌, ◌+◌, ◌∷◌, [], true, false, None, IfOk, IfSome, OnOk, option_copied};
 ghost use Rattle.osm_files.specs.Output.{FailingLasts, IsGoodThroughout};
 ghost use Rattle.osm_files.specs.Change.{change_of};
 ghost use Rattle.osm_files.specs.Sink.{IsOpen};
 ghost use Rattle.osm_merge.specs.Union.{capped_count};
 ghost use Rattle.osm_merge.specs.Pass.{is_new, is_met, pending_next, versions_put, put_at, put_at_end, put_with};
-ghost use Rattle.osm_merge.specs.Pass.{singleton_if};
 ghost use Rattle.osm_merge.specs.Put.{TakesEach, PutsMore, EndsFile, CountsMore, outcome_of};
 
 use crate::compare::compare;
