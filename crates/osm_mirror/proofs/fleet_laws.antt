@@ -1,6 +1,6 @@
-mod FleetLaws
-mod AgreeLaws
-mod MirrorLaws
-mod PlanLineLaws
-mod PlanTextLaws
-mod MergesLaws
+pub mod FleetLaws
+pub mod AgreeLaws
+pub mod MirrorLaws
+pub mod PlanLineLaws
+pub mod PlanTextLaws
+pub mod MergesLaws

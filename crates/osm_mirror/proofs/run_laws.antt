@@ -1,27 +1,27 @@
-mod SourceLaws
-mod JobLaws
-mod KnownLaws
-mod ObjectLaws
-mod TallyLaws
-mod CheckLaws
-mod UnionOfLaws
-mod SortedRunLaws
-mod FilesJobLaws
-mod InputRefusalLaws
-mod FilesRefusalLaws
-mod FilesGoodLaws
-mod WayLaws
-mod TurnLaws
-mod SlicedFileLaws
-mod SplitLineLaws
-mod LinesFromLaws
-mod CutLaws
-mod ShardLaws
-mod BoundLaws
-mod BoundSearch
-mod ProbeLaws
-mod ShardExtentLaws
-mod FileExtentLaws
-mod ShardSpanLaws
-mod SpanJobLaws
-mod ShardJobLaws
+pub mod SourceLaws
+pub mod JobLaws
+pub mod KnownLaws
+pub mod ObjectLaws
+pub mod TallyLaws
+pub mod CheckLaws
+pub mod UnionOfLaws
+pub mod SortedRunLaws
+pub mod FilesJobLaws
+pub mod InputRefusalLaws
+pub mod FilesRefusalLaws
+pub mod FilesGoodLaws
+pub mod WayLaws
+pub mod TurnLaws
+pub mod SlicedFileLaws
+pub mod SplitLineLaws
+pub mod LinesFromLaws
+pub mod CutLaws
+pub mod ShardLaws
+pub mod BoundLaws
+pub mod BoundSearch
+pub mod ProbeLaws
+pub mod ShardExtentLaws
+pub mod FileExtentLaws
+pub mod ShardSpanLaws
+pub mod SpanJobLaws
+pub mod ShardJobLaws
