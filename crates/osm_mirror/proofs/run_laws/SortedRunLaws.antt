@@ -11,7 +11,7 @@ use Rattle.opl_line.specs.Spells.{Spells}
 use Rattle.o5_codec.specs.declared.read.segment.Segment.{Segment}
 use Rattle.o5_codec.specs.Decoder.{new_segment}
 use Rattle.osm_files.specs.Opl.{OplFile}
-use Rattle.osm_files.specs.O5.{end_byte, reset_byte, FileExtent, Reset, Lone, Skipped, Object, part_bytes, PartsSpell, O5File}
+use Rattle.osm_files.specs.O5.{end_byte, reset_byte, FilePart, Reset, Lone, Skipped, Object, part_bytes, PartsSpell, O5File}
 use Rattle.osm_files.specs.Units.{InOpl, BeforeHeader, start_of}
 use Rattle.osm_files.specs.Held.{IsFile, Holds}
 use Rattle.osm_files.specs.SortedRun.{SplitAfterLine, SplitAtReset, IsSplitInto}
@@ -44,8 +44,8 @@ module _ (last : ℕ) (ends : is_line_end last ≡ true) (front : List ℕ) wher
       rw (lines_after last ends front rest) (pairwise_append Spells (lines_of front) (lines_of rest) earlier later (rw first at one) other)
 
 -- ---- data sets
-module _ (more : List FileExtent) (later : List VersionData) (spelled : PartsSpell new_segment more later) where
-  parts_joined : (s : Segment) (parts : List FileExtent) (earlier : List VersionData) → PartsSpell s parts earlier
+module _ (more : List FilePart) (later : List VersionData) (spelled : PartsSpell new_segment more later) where
+  parts_joined : (s : Segment) (parts : List FilePart) (earlier : List VersionData) → PartsSpell s parts earlier
       → PartsSpell s (parts ++ Reset ∷ more) (earlier ++ later)
   parts_joined s [] earlier h = rw h spelled
   parts_joined s (Reset ∷ parts) earlier h = parts_joined new_segment parts earlier h

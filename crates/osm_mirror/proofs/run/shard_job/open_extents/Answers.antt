@@ -31,20 +31,20 @@ files-preserved g c =
         ap length pushed,
         ap length c.in_ok-push.ensures.items,
         length-append c.files.inputs.items (c.open_extent.result ∷ []),
-        length-append c.files.extents.items (c.in_ok-part.extent ∷ []),
+        length-append c.files.extents.items (c.in_ok-extent.extent ∷ []),
       ),
     )
 
-pub returns-in_err-part-clause-refused : goal.returns-in_err-part-clause-refused
-returns-in_err-part-clause-refused g c =
+pub returns-in_err-extent-clause-refused : goal.returns-in_err-extent-clause-refused
+returns-in_err-extent-clause-refused g c =
     let known : Bor g.row.F.Denot → Option (List ℕ) = λ file. g.F.ReadAt.bytes file.now in
     let fails : Bor g.row.F.Denot → Type 0 = λ file. g.F.ReadAt.fails file.now in
     let files = c.args.files.now in
     let file = c.index-files-number.result in
     let at = get_slice files c.files.number file (omega (arith, c.files-test.true)) c.index-files-number.is in
     let p = err_from_is_err_and c.from_residual.result c.from_residual.ensures.1 in
-    rw (p.1, p.2) (one_refused known fails IsFileRefusal files c.files.number file _ at c.in_err-part.ensures.number
-    c.in_err-part.ensures.refused)
+    rw (p.1, p.2) (one_refused known fails IsFileRefusal files c.files.number file _ at c.in_err-extent.ensures.number
+    c.in_err-extent.ensures.refused)
 
 pub returns-clause-inputs : goal.returns-clause-inputs
 returns-clause-inputs g c =

@@ -3,8 +3,8 @@ use Rattle.std.proofs.lemmas.Result.{err_from_is_err_and}
 use Rattle.osm_mirror.proofs.run_laws.FileExtentLaws.{lines_part, whole_extent, cut_refuses, part_falls}
 use Rattle.osm_mirror.proofs.run.shard_extent.extent_of.Goals as goal
 
-pub returns-clause-part : goal.returns-clause-part
-returns-clause-part g c =
+pub returns-clause-extent : goal.returns-clause-extent
+returns-clause-extent g c =
     let known = g.F.ReadAt.bytes c.args.file.now in
     lines_part known c.args.span c.in_ok-size.size c.in_ok-start.start c.in_ok-end.end
     (c.in_ok-is_read_whole.ensures.lines c.if-branch.false) c.in_ok-size.ensures.size
@@ -41,7 +41,7 @@ returns-then-end-start-clause-refused g c =
     (c.in_ok-is_read_whole.ensures.lines c.if-branch.false)
     c.in_ok-start.ensures.begins c.in_ok-end.ensures.ends (omega (arith, c.if-end-start.true))
 
-pub returns-then-branch-clause-part : goal.returns-then-branch-clause-part
-returns-then-branch-clause-part g c =
+pub returns-then-branch-clause-extent : goal.returns-then-branch-clause-extent
+returns-then-branch-clause-extent g c =
     whole_extent (g.F.ReadAt.bytes c.args.file.now) c.args.span c.in_ok-size.size c.whole.result c.in_ok-size.ensures.size
     c.whole.ensures.whole
