@@ -12,7 +12,7 @@ use Rattle.osm_model.specs.Data.{VersionData}
 use Rattle.osm_model.specs.Order.{version_cmp, version_cmp_total}
 use Rattle.osm_model.specs.VersionSet.{VersionSet}
 use Rattle.osm_model.specs.Sets.{contains, empty, union, to_list}
-use Rattle.osm_model.proofs.SetLaws.{same_set, contains-union}
+use Rattle.osm_model.proofs.SetLaws.{contains-union}
 use Rattle.osm_model.proofs.VersionLaws.{version_cmp-IsAntisymmetric}
 use Rattle.osm_files.specs.declared.fault.Fault.{Fault}
 use Rattle.osm_files.specs.Verdict.{held_by}

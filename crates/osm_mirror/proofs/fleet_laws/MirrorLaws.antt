@@ -1,6 +1,6 @@
 -- The histories of mirrors stay within the ranges of versions, and their files are accepted.
-use Rattle.std.proofs.Common.{◌≡◌, ◌⊎◌, ℕ, ◌<◌, ◌≤◌, ◌^◌, Bool, true, List, [], length, Option, Some, None, option_map, Result, Ok, Err}
-use Rattle.std.proofs.Common.{MatchResult, refl, sym, ap, ◌∙◌, subst, arith, inl, inr}
+use Rattle.std.proofs.Common.{◌≡◌, ℕ, ◌<◌, ◌^◌, List, [], length, Some, None, Result, Ok, Err}
+use Rattle.std.proofs.Common.{MatchResult, sym, ap, ◌∙◌, subst, arith, inl, inr}
 use Rattle.std.specs.List.Sorted.{IsStrictlySortedBy}
 use Rattle.osm_model.specs.Order.{version_cmp, version_cmp_total}
 use Rattle.osm_model.specs.VersionSet.{VersionSet}
@@ -14,10 +14,8 @@ use Rattle.osm_files.specs.Held.{Holds, HoldsSorted}
 use Rattle.osm_files.specs.Input.{InputRest, GivesOne, whole_input}
 use Rattle.osm_files.specs.Load.{Loads, StopsLoading}
 use Rattle.osm_files.specs.Output.{IsAppended}
-use Rattle.osm_files.specs.Position.{fault_of}
 use Rattle.osm_files.specs.Spell.{spell}
 use Rattle.osm_files.specs.SpellLaws.{AreVersions}
-use Rattle.osm_files.specs.Stream.{Verdict}
 use Rattle.osm_files.specs.Verdict.{verdict, held_by}
 use Rattle.osm_files.proofs.LoadFaults.{inputs_are_files}
 use Rattle.osm_files.proofs.SpellLaws.{held_are_versions, held_without_verdict, spell_holds, unions_are_versions, are_fewer}
@@ -37,9 +35,6 @@ within_limit count n is below = omega (arith, is, below)
 
 none_some : {A : Type 0} {x : A} → None ≡ Some x → ⊥
 none_some e = cc
-
-some_same : {A : Type 0} {x y : A} → Some x ≡ Some y → x ≡ y
-some_same e = cc
 
 -- ---- within the ranges of versions
 none_listed : length (to_list (from_list {R = version_cmp} [])) ≡ 0

@@ -19,7 +19,6 @@ use Rattle.osm_merge.specs.ToCome as source
 use Rattle.osm_merge.specs.Union.{capped_count}
 use Rattle.osm_mirror.specs.declared.run.check.Sizes.{Sizes}
 use Rattle.osm_mirror.specs.declared.run.check.Checked.{Checked}
-use Rattle.osm_mirror.specs.declared.run.tally.Tally.{Tally}
 use Rattle.osm_mirror.specs.run.Check.{new_objects, objects_after, IsCounted, object_count, checked_as, IsChecked}
 use Rattle.osm_mirror.specs.run.Given.{GivesFile}
 use Rattle.osm_mirror.specs.run.Tally.{no_versions, IsTalliedWith, Tallies}

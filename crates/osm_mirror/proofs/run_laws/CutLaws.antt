@@ -2,7 +2,7 @@
 use Rattle.std.proofs.Common.{◌≡◌, ◌⊎◌, inl, inr, ⊎_elim, ℕ, zero, suc, ◌+◌, ◌-◌, ◌≤◌, ◌<◌, ◌^◌, Bool, true, false, not, cond, List, []}
 use Rattle.std.proofs.Common.{◌∷◌}
 use Rattle.std.proofs.Common.{◌==◌}
-use Rattle.std.proofs.Common.{◌++◌, length, take, drop, refl, sym, ap, ◌∙◌, subst, arith, Option, Some, None, IfSome, Err, append-nil}
+use Rattle.std.proofs.Common.{◌++◌, length, take, drop, refl, sym, ap, ◌∙◌, subst, arith, Option, Some, None, IfSome, append-nil}
 use Rattle.std.proofs.Common.{append_assoc, take-append-drop, get_or}
 use Rattle.std.proofs.lemmas.Bool.{false≢true, cases_lt}
 use Rattle.std.specs.declared.cmp.Ordering.{Ordering}
@@ -35,7 +35,7 @@ use Rattle.osm_mirror.specs.declared.run.lines_from.LinesFrom.{LinesFrom}
 use Rattle.osm_mirror.specs.run.Bounds.{object_of_first}
 use Rattle.osm_mirror.specs.run.CutOffset.{IsCutAt, IsCutOf, IsCutRefusal, BeginsLinesOf, BeginsAs, IsUnderBefore, first_is_under}
 use Rattle.osm_mirror.specs.run.LinesFrom.{AreLines, AreLinesOf, is_below}
-use Rattle.osm_mirror.proofs.run_laws.SplitLineLaws.{SplitLines, split_lines, split_versions, at_end}
+use Rattle.osm_mirror.proofs.run_laws.SplitLineLaws.{split_lines, split_versions, at_end}
 
 -- ---- one offset further
 -- the lines from the next offset on are the same, or the first one is left out

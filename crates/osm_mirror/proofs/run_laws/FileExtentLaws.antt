@@ -1,5 +1,5 @@
 -- The extents of files that a run for a span reads give the slices of the files' sets, or show that a file isn't sorted.
-use Rattle.std.proofs.Common.{◌≡◌, ◌⊎◌, inl, inr, ⊎_elim, ℕ, ◌+◌, ◌-◌, ◌≤◌, ◌<◌, ◌^◌, Bool, true, false, not, ◌&&◌, ◌||◌, cond, List, []}
+use Rattle.std.proofs.Common.{◌≡◌, ◌⊎◌, inl, inr, ⊎_elim, ℕ, ◌-◌, ◌≤◌, ◌<◌, ◌^◌, Bool, true, false, not, ◌&&◌, ◌||◌, cond, List, []}
 use Rattle.std.proofs.Common.{◌∷◌, ◌++◌, length, take, drop, Option, Some, None, IfSome, refl, sym, ap, ◌∙◌, subst, arith, append-nil}
 use Rattle.std.specs.Cmp.{Equal-is, tied_itself}
 use Rattle.std.specs.Ordering.{eq_by_cmp, is_eq}
@@ -12,7 +12,7 @@ use Rattle.std.proofs.lemmas.List.Folds.{list_any-append}
 use Rattle.osm_model.specs.Data.{VersionData}
 use Rattle.osm_model.specs.Order.{version_cmp, version_cmp_total}
 use Rattle.osm_model.specs.VersionSet.{VersionSet}
-use Rattle.osm_model.specs.Sets.{contains, from_list, to_list, size}
+use Rattle.osm_model.specs.Sets.{contains, from_list, to_list}
 use Rattle.osm_model.proofs.SetLaws.{contains-from_list, contains-listed, strict-listed}
 use Rattle.osm_model.proofs.VersionLaws.{version_cmp-IsAntisymmetric}
 use Rattle.osm_files.specs.declared.fault.Fault.{Fault}
@@ -21,29 +21,26 @@ use Rattle.osm_files.specs.Extent.{RunCanGive}
 use Rattle.osm_files.specs.FileRuns.{IsReadFailure}
 use Rattle.osm_files.specs.Groups.{sorted_source}
 use Rattle.osm_files.specs.Input.{InputRest}
-use Rattle.osm_files.specs.Held.{Holds, HoldsSorted}
-use Rattle.osm_files.specs.LoadLaws.{broken_after}
+use Rattle.osm_files.specs.Held.{HoldsSorted}
 use Rattle.osm_files.specs.SortedRun.{run_bytes, whole_run}
 use Rattle.osm_files.specs.Stream.{Verdict, end_whole, end_refused}
-use Rattle.osm_files.specs.Units.{InOpl, start_of}
 use Rattle.osm_files.specs.Verdict.{verdict_sorted}
 use Rattle.osm_files.proofs.FaultyLaws.{broken_is_refused}
 use Rattle.osm_files.proofs.FileLaws.{sorted_files_are_read}
 use Rattle.osm_files.proofs.FrontLaws.{front_given}
 use Rattle.osm_files.proofs.HoldLaws.{source_gives_held, set_listed}
 use Rattle.osm_files.proofs.RunBytes.{run_given}
-use Rattle.osm_files.proofs.RunOrderLaws.{Refuses, run_refuses, run_front, broken_fails}
+use Rattle.osm_files.proofs.RunOrderLaws.{run_refuses, run_front, broken_fails}
 use Rattle.osm_files.proofs.SpellLaws.{held_is_one_set}
 use Rattle.osm_merge.specs.declared.span.Span.{Span}
 use Rattle.osm_merge.specs.declared.within.Outside.{Outside}
 use Rattle.osm_merge.specs.declared.within.Outside.TheVariants.{Dropped, Refused}
-use Rattle.osm_merge.specs.Slice.{slice_of, is_within, is_under, is_ascending, IsWithin}
+use Rattle.osm_merge.specs.Slice.{slice_of, is_within, is_under, is_ascending}
 use Rattle.osm_merge.specs.ToCome as source
 use Rattle.osm_merge.specs.Within.{up_to, from_bound, stray_fault}
 use Rattle.osm_merge.proofs.SliceLaws.{kept_in, under_down, none_after}
 use Rattle.osm_files.proofs.SpellLaws.{equal_sets as equal}
 use Rattle.osm_mirror.specs.declared.run.shard_extent.FileExtent.{FileExtent}
-use Rattle.osm_mirror.specs.run.Bounds.{is_opl}
 use Rattle.std.proofs.Common.{Result, Ok, Err, IfOk}
 use Rattle.osm_model.specs.declared.object.Object.{Object}
 use Rattle.osm_mirror.specs.run.CutOffset.{BeginsAs, BeginsLinesOf, IsCutOf, IsCutRefusal}
@@ -54,7 +51,7 @@ use Rattle.osm_mirror.specs.run.SliceJob.{given_slice, IsPartRead, HasSlice, Giv
 use Rattle.osm_mirror.proofs.run_laws.InputRefusalLaws.{has_number}
 use Rattle.osm_mirror.specs.declared.run.files_job.Order.TheVariants.{Sorted}
 use Rattle.osm_mirror.proofs.run_laws.ShardExtentLaws.{part_holds, part_rises, within_itself}
-use Rattle.osm_mirror.proofs.run_laws.ProbeLaws.{opl_is, opl_starts, opl_file, probe_refuses}
+use Rattle.osm_mirror.proofs.run_laws.ProbeLaws.{opl_is, opl_starts, probe_refuses}
 use Rattle.osm_mirror.proofs.fleet_laws.MergesLaws.{as_held}
 
 -- ---- the extent of a file

@@ -1,10 +1,9 @@
 -- Runs over good files: they are refused for memory or the output only, and write a front of their file.
-use Rattle.std.proofs.Common.{◌≡◌, ◌⊎◌, inl, inr, ⊎_elim, ℕ, zero, suc, ◌+◌, ◌-◌, ◌<◌, ◌≤◌, ◌^◌, Bool, true, false, List, [], ◌∷◌, ◌++◌}
-use Rattle.std.proofs.Common.{length, map, take, Option, Some, None, IfSome, slice_get, refl, sym, ap, ◌∙◌, subst, arith, append-nil}
+use Rattle.std.proofs.Common.{◌≡◌, ◌⊎◌, inl, inr, ⊎_elim, ℕ, zero, suc, ◌+◌, ◌-◌, ◌<◌, ◌^◌, Bool, true, false, List, [], ◌∷◌, ◌++◌}
+use Rattle.std.proofs.Common.{length, map, Option, Some, None, IfSome, slice_get, refl, sym, ap, ◌∙◌, subst, arith}
 use Rattle.std.specs.List.{All}
 use Rattle.std.proofs.lemmas.Bool.{false≢true}
 use Rattle.std.proofs.lemmas.List.Elements.{All-head, All-tail}
-use Rattle.osm_model.specs.Data.{VersionData}
 use Rattle.osm_model.specs.Order.{version_cmp}
 use Rattle.osm_model.specs.VersionSet.{VersionSet}
 use Rattle.osm_model.specs.Sets.{from_list}
@@ -12,25 +11,22 @@ use Rattle.osm_model.specs.Pairwise.{Pairwise}
 use Rattle.osm_files.specs.declared.fault.Fault.{Fault}
 use Rattle.osm_files.specs.declared.output.Output.{Ghosts}
 use Rattle.osm_files.specs.declared.sorted_run.SortedRun.{SortedRun}
-use Rattle.osm_files.specs.declared.reason.Reason.TheVariants.{Memory, Unsorted}
 use Rattle.osm_files.specs.Change.{change_of}
 use Rattle.osm_files.specs.Extent.{RunCanGive}
 use Rattle.osm_files.specs.Fault.{fault_at, memory_fault}
-use Rattle.osm_files.specs.FileRuns.{IsAccepted, IsSortedRun}
-use Rattle.osm_files.specs.Held.{Holds, HoldsSorted}
+use Rattle.osm_files.specs.FileRuns.{IsSortedRun}
+use Rattle.osm_files.specs.Held.{Holds}
 use Rattle.osm_files.specs.Input.{InputRest}
 use Rattle.osm_files.specs.Output.{Change, Appends}
 use Rattle.osm_files.specs.Sink.{CutShort, WhyCut}
 use Rattle.osm_files.specs.Stream.{verdict_at}
-use Rattle.osm_files.specs.Verdict.{verdict_sorted}
-use Rattle.osm_files.specs.SortedRun.{run_bytes, whole_run, IsSplitIntoRuns}
+use Rattle.osm_files.specs.SortedRun.{run_bytes, whole_run}
 use Rattle.osm_files.specs.Spell.{spell}
 use Rattle.osm_files.proofs.FileLaws.{one_list, sorted_files_are_read}
 use Rattle.osm_files.proofs.RunBytes.{run_given}
 use Rattle.osm_files.proofs.RunOrderLaws.{broken_fails}
 use Rattle.osm_files.proofs.SplitLaws.{whole_file}
 use Rattle.osm_merge.specs.Giving.{AllGive, SomeInputsGive}
-use Rattle.osm_merge.specs.Merged as merged
 use Rattle.osm_merge.specs.Selected.{selection_of}
 use Rattle.osm_mirror.specs.declared.run.file_way.FileWay.{FileWay}
 use Rattle.osm_mirror.specs.declared.run.files_job.FilesJob.{FilesJob}
@@ -43,10 +39,9 @@ use Rattle.osm_mirror.specs.declared.run.input.ReadAs.{ReadAs}
 use Rattle.osm_mirror.specs.run.FilesRefusal.{AreSettled, IsFaultOfBytes, IsFaultOf, IsFaultAmong, AreRefused, IsGood, IsCutIfGood}
 use Rattle.osm_mirror.specs.run.FilesRefusal.{IsOutputFault}
 use Rattle.osm_mirror.specs.run.FilesRefusal.{IsFaultInWays, RefusesTurn}
-use Rattle.osm_mirror.specs.run.FilesJob.{read_as_of, HoldsAs, IsAsRequired, IsWayOf, FitsBytes, FileFits, FilesFit, OpensRun, OpensFile}
+use Rattle.osm_mirror.specs.run.FilesJob.{read_as_of, HoldsAs, IsWayOf, FitsBytes, FileFits, FilesFit, OpensRun, OpensFile}
 use Rattle.osm_mirror.specs.run.FilesJob.{OpensFiles, fault_in_files}
-use Rattle.osm_mirror.specs.run.Given.{InputFileCanGive, GivesAs, GivesFile, IsFileAs, source_of, sources, IsRead}
-use Rattle.osm_mirror.specs.run.Merge.{GivesSorted}
+use Rattle.osm_mirror.specs.run.Given.{InputFileCanGive, GivesAs, IsFileAs}
 use Rattle.osm_mirror.specs.run.Job.{union_of}
 use Rattle.osm_mirror.specs.run.SelectedJob.{RefusesJob, IsJobRefused}
 use Rattle.osm_mirror.specs.run.SortedRuns.{SortedRunsHoldTheFile}
@@ -54,7 +49,7 @@ use Rattle.osm_mirror.proofs.run_laws.FilesRefusalLaws.{fault_found, output_foun
 use Rattle.osm_mirror.proofs.run_laws.InputRefusalLaws.{SomeRefused, refused_at, unread_refused}
 use Rattle.osm_mirror.proofs.run_laws.FilesRefusalLaws.{Found}
 use Rattle.osm_mirror.proofs.run_laws.FilesRefusalLaws.{stream_gave}
-use Rattle.osm_mirror.proofs.run_laws.FilesJobLaws.{cut, as_pairs, as_given, as_any, pairwise_length}
+use Rattle.osm_mirror.proofs.run_laws.FilesJobLaws.{cut, as_pairs, as_given, as_any}
 use Rattle.osm_mirror.proofs.run_laws.SourceLaws as source_laws
 use Rattle.osm_mirror.proofs.run_laws.UnionOfLaws.{union_of_one, union_of_front}
 

@@ -1,5 +1,5 @@
 -- The inputs of open files give what the files hold.
-use Rattle.std.proofs.Common.{◌≡◌, ℕ, zero, suc, ◌+◌, ◌<◌, ◌^◌, List, [], ◌∷◌, ◌++◌, length, map, take, drop, get_or, set, Option, Some}
+use Rattle.std.proofs.Common.{◌≡◌, ℕ, zero, suc, ◌+◌, ◌<◌, List, [], ◌∷◌, ◌++◌, length, map, take, drop, get_or, set, Option, Some}
 use Rattle.std.proofs.Common.{None, append-nil}
 use Rattle.std.proofs.Common.{inl, inr, append_assoc, refl, sym, ap, ◌∙◌, subst, IfSome, arith}
 use Rattle.std.specs.List.{zip}
@@ -7,7 +7,6 @@ use Rattle.std.proofs.Math.Seq.{take-suc}
 use Rattle.osm_model.specs.VersionSet.{VersionSet}
 use Rattle.osm_model.specs.Sets.{size}
 use Rattle.osm_model.specs.Pairwise.{Pairwise}
-use Rattle.osm_files.specs.declared.format.Format.{Format}
 use Rattle.osm_files.specs.declared.sorted_run.SortedRun.{SortedRun}
 use Rattle.osm_files.specs.Held.{Holds}
 use Rattle.osm_files.specs.Input.{InputRest}

@@ -37,7 +37,7 @@ use Rattle.osm_mirror.specs.declared.run.input.ReadAs.{ReadAs}
 use Rattle.osm_mirror.specs.run.FilesRefusal.{IsFaultOfBytes, IsFaultInWay}
 use Rattle.osm_mirror.specs.run.FilesJob.{read_as_of, IsAsRequired, IsWayOf, FitsBytes, FileFits, FilesFit, OpensRun, OpensFile, OpensFiles}
 use Rattle.osm_mirror.specs.run.FilesJob.{fault_in_run_or, fault_in_files}
-use Rattle.osm_mirror.specs.run.Given.{InputFileCanGive, source_of, refusal}
+use Rattle.osm_mirror.specs.run.Given.{InputFileCanGive, source_of}
 use Rattle.osm_mirror.proofs.run_laws.FilesJobLaws.{cut, as_pairs, as_given}
 use Rattle.osm_mirror.proofs.run_laws.InputRefusalLaws.{SomeRefused, some_of_both, any_refused, has_number}
 

@@ -5,7 +5,7 @@ use Rattle.osm_model.specs.declared.object.Object.{Object}
 use Rattle.osm_model.specs.Data.{VersionData}
 use Rattle.osm_model.specs.Order.{object_of}
 use Rattle.osm_files.specs.declared.fault.Fault.{Fault}
-use Rattle.osm_files.specs.Lines.{lines_from, line_start_from, bytes_between, IsLineStart, IsFirstOf, IsFirstIn, IsFirstBetween}
+use Rattle.osm_files.specs.Lines.{lines_from, line_start_from, bytes_between, IsLineStart, IsFirstOf, IsFirstBetween}
 use Rattle.osm_files.specs.Opl.{OplFile}
 use Rattle.osm_files.proofs.FirstLaws.{one_opl}
 use Rattle.osm_files.proofs.JoinLaws.{SplitVersions}
@@ -13,7 +13,7 @@ use Rattle.osm_files.proofs.LineStarts.{start_lines, start_begins, start_within,
 use Rattle.osm_mirror.specs.declared.run.lines_from.LinesFrom.{LinesFrom}
 use Rattle.osm_mirror.specs.run.Bounds.{object_of_first}
 use Rattle.osm_mirror.specs.run.CutOffset.{IsCutRefusal}
-use Rattle.osm_mirror.specs.run.LinesFrom.{AreLines, AreLinesOf}
+use Rattle.osm_mirror.specs.run.LinesFrom.{AreLinesOf}
 use Rattle.osm_mirror.proofs.run_laws.SplitLineLaws.{split_lines, split_versions, split_between, at_end}
 
 -- The versions of the lines from an offset on are those of the lines up to a later one, and those of the later lines.

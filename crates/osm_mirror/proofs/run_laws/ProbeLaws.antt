@@ -1,10 +1,10 @@
 -- The probes of files: what they find, and at which offsets.
 use Rattle.std.proofs.Common.{◌≡◌, ℕ, zero, suc, ◌+◌, ◌-◌, ◌*◌, ◌/◌, ◌≤◌, ◌<◌, ◌==◌, ◌^◌, ◌⊎◌, min, Bool, true, false}
 use Rattle.std.proofs.Common.{not, cond, List, [], ◌∷◌}
-use Rattle.std.proofs.Common.{◌++◌, length, refl, sym, ap, ◌∙◌, subst, arith, Option, Some, None, Ok, IfSome, inl, inr, ⊎_elim}
+use Rattle.std.proofs.Common.{◌++◌, length, refl, sym, ap, ◌∙◌, subst, arith, Option, Some, None, IfSome, inl, inr, ⊎_elim}
 use Rattle.std.proofs.Common.{take, drop, take-append-drop, get_or}
 use Rattle.std.proofs.Common.{append_assoc, append-nil}
-use Rattle.std.specs.Prelude.{option_map, sum_by, unwrap_or}
+use Rattle.std.specs.Prelude.{sum_by, unwrap_or}
 use Rattle.std.proofs.lemmas.Bool.{cases_lt}
 use Rattle.std.proofs.lemmas.Bool.Decides.{nat_tests}
 use Rattle.std.proofs.lemmas.Grind.{flat_map-append}
@@ -14,7 +14,6 @@ use Rattle.osm_model.specs.declared.object.Object.{Object}
 use Rattle.osm_model.specs.Data.{VersionData}
 use Rattle.osm_model.specs.Pairwise.{Pairwise}
 use Rattle.osm_model.specs.VersionSet.{VersionSet}
-use Rattle.osm_model.specs.Order.{object_of}
 use Rattle.osm_files.specs.declared.fault.Fault.{Fault}
 use Rattle.osm_files.specs.Held.{HoldsSorted, IsFileOf}
 use Rattle.osm_files.specs.Lines.{lines_from}

@@ -1,12 +1,11 @@
 -- The extent of a sorted OPL file within a span holds the slice of what the file holds.
-use Rattle.std.proofs.Common.{◌≡◌, ◌⊎◌, inl, inr, ⊎_elim, ℕ, zero, suc, ◌+◌, ◌-◌, ◌≤◌, ◌<◌, Bool, true, false, not, ◌&&◌, ◌||◌, cond}
+use Rattle.std.proofs.Common.{◌≡◌, ◌⊎◌, inl, inr, ⊎_elim, ℕ, zero, suc, ◌-◌, ◌≤◌, Bool, true, false, not, ◌&&◌, ◌||◌, cond}
 use Rattle.std.proofs.Common.{List, [], ◌∷◌, ◌++◌, length, take, drop, Option, Some, None, refl, sym, ap, ◌∙◌, subst, arith, append-nil}
-use Rattle.std.proofs.Common.{take-append-drop}
 use Rattle.std.specs.Cmp.{Equal-is}
 use Rattle.std.specs.Ordering.{is_lt, eq_by_cmp}
 use Rattle.std.specs.List.{list_any, filter, AllByRecursion}
 use Rattle.std.proofs.lemmas.Bool.{false≢true, cases_lt}
-use Rattle.std.proofs.lemmas.List.{take_all, length-take, length-drop, nil_from_length, drop-drop, append_cancel_right}
+use Rattle.std.proofs.lemmas.List.{length-take, length-drop, nil_from_length, append_cancel_right}
 use Rattle.std.proofs.lemmas.List.Elements.{filter-append}
 use Rattle.std.proofs.lemmas.List.Kept.{IsSortedBy-filter}
 use Rattle.std.proofs.lemmas.List.Sorted.{ranks_by}
@@ -17,11 +16,10 @@ use Rattle.osm_model.specs.Sets.{contains, from_list}
 use Rattle.osm_model.proofs.SetLaws.{contains-from_list}
 use Rattle.osm_model.proofs.VersionLaws.{version_cmp-IsAntisymmetric}
 use Rattle.osm_files.specs.Held.{HoldsSorted, IsFileOf}
-use Rattle.osm_files.specs.Lines.{BeginsLine}
 use Rattle.osm_files.specs.Opl.{OplFile}
 use Rattle.osm_files.specs.Units.{InOpl, start_of}
 use Rattle.osm_files.proofs.FirstLaws.{one_opl}
-use Rattle.osm_files.proofs.JoinLaws.{Ended, SplitVersions}
+use Rattle.osm_files.proofs.JoinLaws.{Ended}
 use Rattle.osm_files.proofs.LineStarts.{end_begins}
 use Rattle.osm_merge.specs.declared.span.Span.{Span}
 use Rattle.osm_merge.specs.Members.{retain}

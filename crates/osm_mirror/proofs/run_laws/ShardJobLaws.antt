@@ -1,6 +1,6 @@
 -- The runs for all shards of an output write what one run writes.
 use Rattle.std.proofs.Common.{◌≡◌, ◌⊎◌, inl, inr, ⊎_elim, ℕ, zero, suc, ◌+◌, ◌-◌, ◌≤◌, ◌<◌, ◌^◌, true, List, [], ◌∷◌, ◌++◌, length, map}
-use Rattle.std.proofs.Common.{drop, append-nil, slice_get, IfSome, IsTrue}
+use Rattle.std.proofs.Common.{drop, append-nil, slice_get, IfSome}
 use Rattle.std.proofs.Common.{Option, Some, None, refl, sym, ap, ◌∙◌, subst, arith, length-drop, length-append}
 use Rattle.std.specs.Prelude.{pos}
 use Rattle.std.specs.List.{concat}
@@ -14,7 +14,7 @@ use Rattle.osm_files.specs.declared.fault.Fault.{Fault}
 use Rattle.osm_files.specs.declared.format.Format.TheVariants.{Opl}
 use Rattle.osm_files.specs.declared.reason.Reason.TheVariants.{Memory}
 use Rattle.osm_files.specs.Extent.{RunCanGive}
-use Rattle.osm_files.specs.Fault.{memory_fault, fault_at}
+use Rattle.osm_files.specs.Fault.{fault_at}
 use Rattle.osm_files.specs.Held.{HoldsSorted}
 use Rattle.osm_files.specs.Input.{InputRest}
 use Rattle.osm_files.specs.Load.{StopsOpening}

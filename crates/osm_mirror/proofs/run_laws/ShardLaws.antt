@@ -1,22 +1,18 @@
 -- Parts of a file between offsets, and the runs over the extents of several files.
-use Rattle.std.proofs.Common.{◌≡◌, ◌⊎◌, inl, inr, ⊎_elim, ℕ, zero, suc, ◌+◌, ◌-◌, ◌≤◌, List, [], ◌∷◌, ◌++◌, take, drop, map}
-use Rattle.std.proofs.Common.{refl, sym, ap, ◌∙◌, subst, arith, Option, Some, None, append-nil, append_assoc, take-append-drop}
-use Rattle.std.proofs.lemmas.List.{drop-drop, append_cancel_right}
+use Rattle.std.proofs.Common.{◌≡◌, ◌⊎◌, ⊎_elim, ℕ, ◌-◌, List, [], ◌∷◌, ◌++◌, take, drop, map}
+use Rattle.std.proofs.Common.{refl, sym, ap, ◌∙◌, subst, Option, Some, None, append-nil, append_assoc}
 use Rattle.osm_model.specs.declared.object.Object.{Object}
 use Rattle.osm_model.specs.Data.{VersionData}
 use Rattle.osm_model.specs.Pairwise.{Pairwise}
 use Rattle.osm_model.specs.VersionSet.{VersionSet}
-use Rattle.osm_files.specs.Lines.{lines_from}
 use Rattle.osm_files.specs.Held.{IsFile, HoldsSorted}
 use Rattle.osm_files.specs.Units.{InOpl, start_of}
 use Rattle.osm_files.proofs.FileLaws.{one_list}
 use Rattle.osm_files.proofs.JoinLaws.{Ended}
-use Rattle.osm_files.proofs.LineStarts.{start_lines}
 use Rattle.osm_merge.specs.declared.span.Span.{Span}
 use Rattle.osm_merge.specs.Slice.{slice_of, spans, spans_from, IsWithin}
 use Rattle.osm_merge.specs.Union as merged
 use Rattle.osm_merge.proofs.SliceLaws.{Rise, rise}
-use Rattle.osm_mirror.specs.run.CutOffset.{BeginsLines}
 use Rattle.osm_mirror.specs.run.Shards.{parts_from, AreCutsFrom, ExtentsHoldTheFile, first_set, other_sets, by_span}
 use Rattle.osm_mirror.specs.run.Shards.{ShardsWriteTheJob}
 use Rattle.osm_mirror.specs.run.Slices.{AreSlicesWithin}

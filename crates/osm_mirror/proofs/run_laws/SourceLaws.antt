@@ -1,7 +1,7 @@
 -- The sources of files give the members of the files' sets, and the union of what sources give is the union of the sets.
 use Rattle.std.proofs.Common.{◌≡◌, ◌⊎◌, inl, inr, ⊎_elim, ℕ, zero, suc, ◌+◌, ◌<◌, Bool, true, false, not, ◌&&◌, ◌||◌, List, [], ◌∷◌, ◌++◌}
 use Rattle.std.proofs.Common.{fold, length, map, if◌then◌else◌}
-use Rattle.std.proofs.Common.{take, drop, get_or, refl, sym, ap, ◌∙◌, subst, arith, append-nil, Option, Some, None, is_some, option_map}
+use Rattle.std.proofs.Common.{take, drop, get_or, refl, sym, ap, ◌∙◌, subst, arith, Option, Some, None, is_some, option_map}
 use Rattle.std.proofs.Common.{sum_by}
 use Rattle.std.specs.Ordering.{eq_by_cmp}
 use Rattle.std.specs.FinMap.{get-empty}
@@ -29,7 +29,6 @@ use Rattle.osm_files.specs.Groups.{FileSourceData, FileCanGive, new_source, sort
 use Rattle.osm_files.specs.Held.{HoldsSorted}
 use Rattle.osm_files.specs.Input.{InputRest, GivesOne}
 use Rattle.osm_files.specs.Load.{Loads, StopsLoading}
-use Rattle.osm_files.specs.Output.{Content, IsAppended}
 use Rattle.osm_files.specs.Position.{units_from, fault_of, with_rest}
 use Rattle.osm_files.specs.Sink.{CutShort}
 use Rattle.osm_files.specs.Source.{Ascends}

@@ -1,5 +1,5 @@
 -- Runs for a span of files: what they write, and why they are refused.
-use Rattle.std.proofs.Common.{◌≡◌, ◌⊎◌, inl, inr, ⊎_elim, ℕ, zero, suc, ◌+◌, ◌≤◌, ◌<◌, ◌^◌, true, Bool, List, [], ◌∷◌, length, map}
+use Rattle.std.proofs.Common.{◌≡◌, ◌⊎◌, inl, inr, ⊎_elim, ℕ, zero, suc, ◌+◌, ◌≤◌, ◌<◌, ◌^◌, Bool, List, [], ◌∷◌, length, map}
 use Rattle.std.proofs.Common.{Option, Some, None, IfSome, slice_get, refl, sym, ap, ◌∙◌, subst, arith, sum_by}
 use Rattle.std.specs.Prelude.{unwrap_or}
 use Rattle.std.proofs.lemmas.Bool.{cases_lt}
@@ -11,7 +11,6 @@ use Rattle.osm_files.specs.declared.format.Format.{Format}
 use Rattle.osm_files.specs.declared.reason.Reason.TheVariants.{Memory}
 use Rattle.osm_files.specs.Extent.{RunCanGive}
 use Rattle.osm_files.specs.Fault.{memory_fault, fault_at, IsOfFile}
-use Rattle.osm_files.specs.FileRuns.{IsReadFailure}
 use Rattle.osm_files.specs.Held.{HoldsSorted}
 use Rattle.osm_files.specs.Input.{InputRest}
 use Rattle.osm_files.specs.Output.{Change, Appends}
@@ -22,7 +21,6 @@ use Rattle.osm_merge.specs.declared.span.Span.{Span}
 use Rattle.osm_merge.specs.declared.selection.Selection.{Selection}
 use Rattle.osm_merge.specs.declared.within.Outside.{Outside}
 use Rattle.osm_merge.specs.Giving.{AllGive, SomeInputsGive}
-use Rattle.osm_merge.specs.Merged as merged
 use Rattle.osm_merge.specs.Selected.{selection_of}
 use Rattle.osm_merge.specs.Slice.{slice_of}
 use Rattle.osm_merge.specs.ToCome.{rest_at}
@@ -33,9 +31,9 @@ use Rattle.osm_mirror.specs.run.Bounds.{opl_size}
 use Rattle.osm_mirror.specs.run.FilesRefusal.{IsOutputFault}
 use Rattle.osm_mirror.specs.run.Probes.{HaveBytes}
 use Rattle.osm_mirror.specs.run.Job.{union_of}
-use Rattle.osm_mirror.specs.run.ShardExtent.{IsFileExtent, IsExtentOf, IsInputOf, AreInputsOf}
-use Rattle.osm_mirror.specs.run.ShardRefusal.{IsFileRefusal, IsFaultOfFile, fault_in_extent, IsFaultAmong, AreTooLong, AreRefused, IsGood}
-use Rattle.osm_mirror.specs.run.ShardRefusal.{IsCutIfGood, RefusesSpan}
+use Rattle.osm_mirror.specs.run.ShardExtent.{IsExtentOf, IsInputOf, AreInputsOf}
+use Rattle.osm_mirror.specs.run.ShardRefusal.{IsFileRefusal, IsFaultOfFile, fault_in_extent, AreRefused, IsGood}
+use Rattle.osm_mirror.specs.run.ShardRefusal.{RefusesSpan}
 use Rattle.osm_mirror.specs.run.ShardJob.{shard_slices, IsSpanJob}
 use Rattle.osm_mirror.specs.run.SliceJob.{SliceFileCanGive, given_slice, given_slices, HasSlice, GivesSlice, IsSliceJob, RefusesSlice}
 use Rattle.osm_mirror.proofs.run_laws.FileExtentLaws.{found_is, good_is, fault_is, slice_number}

@@ -11,7 +11,7 @@ use Rattle.osm_files.specs.Clear.{IsCleared}
 use Rattle.osm_files.specs.Fault.{memory_fault}
 use Rattle.osm_files.specs.FileRuns.{IsAccepted, IsFirstUnsorted}
 use Rattle.osm_files.specs.Input.{InputRest}
-use Rattle.osm_files.specs.Output.{Change, Appends}
+use Rattle.osm_files.specs.Output.{Change}
 use Rattle.osm_merge.specs.declared.merge.Counts.{Counts}
 use Rattle.osm_merge.specs.Merged.{Grows}
 use Rattle.osm_mirror.specs.declared.run.file_way.FileWay.{FileWay}

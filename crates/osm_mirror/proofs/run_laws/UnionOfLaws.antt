@@ -1,12 +1,8 @@
 -- Unions of lists of sets.
-use Rattle.std.proofs.Common.{◌≡◌, Bool, true, false, ◌||◌, List, [], ◌∷◌, ◌++◌, sym, ap, ◌∙◌}
+use Rattle.std.proofs.Common.{◌≡◌, ◌||◌, List, [], ◌∷◌, ◌++◌, sym, ap, ◌∙◌}
 use Rattle.std.proofs.lemmas.List.Folds.{list_any-append}
-use Rattle.osm_model.specs.Data.{VersionData}
-use Rattle.osm_model.specs.Order.{version_cmp_total}
 use Rattle.osm_model.specs.VersionSet.{VersionSet}
 use Rattle.osm_model.specs.Sets.{contains}
-use Rattle.osm_model.proofs.SetLaws.{same_set}
-use Rattle.osm_model.proofs.VersionLaws.{version_cmp-IsAntisymmetric}
 use Rattle.osm_mirror.specs.run.Job.{union_of}
 use Rattle.osm_mirror.proofs.fleet_laws.MergesLaws.{or_false, in_union_of}
 use Rattle.osm_files.proofs.SpellLaws.{equal_sets as equal}

@@ -12,14 +12,14 @@ use Rattle.osm_files.specs.declared.reason.Reason.TheVariants.{ReadFault}
 use Rattle.osm_files.specs.Fault.{memory_fault, IsOfFile}
 use Rattle.osm_files.specs.FileRuns.{IfWhole, IsAccepted, IsAcceptedRun, IsSortedRun, IsSortedIfAccepted, IsFirstUnsorted, IsRefusalOf}
 use Rattle.osm_files.specs.Input.{InputRest}
-use Rattle.osm_files.specs.SortedRun.{IsSplitIntoRuns, run_bytes, whole_run}
+use Rattle.osm_files.specs.SortedRun.{IsSplitIntoRuns}
 use Rattle.osm_files.proofs.SplitLaws.{whole_file}
 use Rattle.osm_mirror.specs.declared.run.file_way.FileWay.{FileWay}
 use Rattle.osm_mirror.specs.declared.run.files_job.JobFile.{JobFile}
-use Rattle.osm_mirror.specs.declared.run.files_job.JobFile.TheVariants.{File, Stream}
+use Rattle.osm_mirror.specs.declared.run.files_job.JobFile.TheVariants.{File}
 use Rattle.osm_mirror.specs.declared.run.files_job.Order.{Order}
 use Rattle.osm_mirror.specs.declared.run.files_job.Order.TheVariants.{Sorted, Any}
-use Rattle.osm_mirror.specs.run.FilesRefusal.{IsSizeFault, IsFirstIn, IsFirstOf, IsFaultOfBytes, IsFaultOf, IsRefusedFile, AreRefused}
+use Rattle.osm_mirror.specs.run.FilesRefusal.{IsSizeFault, IsFirstIn, IsFirstOf, IsFaultOfBytes, IsRefusedFile, AreRefused}
 use Rattle.osm_mirror.specs.run.FilesRefusal.{AreSettled}
 use Rattle.osm_mirror.specs.run.FilesJob.{IsWhole, IsReadWhole, IsAsRequired, IsWayOf, FitsBytes, FileFits, FilesFit}
 use Rattle.osm_mirror.proofs.run_laws.FilesJobLaws.{take_more, pairwise_length}

@@ -8,7 +8,6 @@ use Rattle.osm_files.specs.Extent.{RunCanGive}
 use Rattle.osm_files.specs.Input.{InputRest}
 use Rattle.osm_files.specs.SortedRun.{whole_run}
 use Rattle.osm_merge.specs.declared.span.Span.{Span}
-use Rattle.osm_merge.specs.declared.within.Outside.{Outside}
 use Rattle.osm_merge.specs.declared.within.Outside.TheVariants.{Dropped, Refused}
 use Rattle.osm_mirror.specs.declared.run.shard_extent.FileExtent.{FileExtent}
 use Rattle.osm_mirror.specs.declared.run.slice.SliceFile.{SliceFile}

@@ -1,4 +1,4 @@
-use Rattle.std.proofs.Common.{◌+◌, List, ℕ, Option, take, Bor, arith, sym, ap, subst, inl, inr, refl, ◌^◌, ◌≤◌, ◌-◌}
+use Rattle.std.proofs.Common.{◌+◌, List, ℕ, Option, take, Bor, arith, sym, ap, subst, inl, inr, refl}
 use Rattle.std.proofs.lemmas.List.{take_all}
 use Rattle.std.proofs.lemmas.Result.{err_from_is_err_and}
 use Rattle.osm_mirror.specs.run.Probes.{HaveBytes, IsTotal}

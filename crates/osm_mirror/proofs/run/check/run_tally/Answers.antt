@@ -1,4 +1,4 @@
-use Rattle.std.proofs.Common.{subst, refl, inl}
+use Rattle.std.proofs.Common.{subst, inl}
 use Rattle.std.proofs.lemmas.Result.{err_from_is_err_and}
 use Rattle.osm_merge.specs.ToCome as source
 use Rattle.osm_mirror.specs.run.Check.{IsCounted}

@@ -1,4 +1,4 @@
-use Rattle.std.proofs.Common.{◌≡◌, false, inr, List, IfSome, refl, sym, subst}
+use Rattle.std.proofs.Common.{false, inr, IfSome, refl, sym, subst}
 use Rattle.std.proofs.lemmas.Result.{IfOk-weaker}
 use Rattle.osm_mirror.specs.declared.run.file_way.FileWay.{FileWay}
 use Rattle.osm_mirror.specs.declared.run.files_job.Order.TheVariants.{Any, Sorted}

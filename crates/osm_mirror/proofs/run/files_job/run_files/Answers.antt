@@ -4,7 +4,7 @@ use Rattle.osm_mirror.specs.declared.run.files_job.Order.{Order}
 use Rattle.osm_mirror.specs.declared.run.files_job.Order.TheVariants.{Any}
 use Rattle.osm_mirror.specs.run.FilesRefusal.{AreRefused, AreSettled, IsFirstFound, IsFirstOf, IsOutputFault, RefusesTurn}
 use Rattle.osm_mirror.specs.run.FilesJob.{FilesFit}
-use Rattle.osm_mirror.proofs.run_laws.TurnLaws.{Starts, starts_anew, keeps, grew_nothing, refused_before, loop_refused, loop_first}
+use Rattle.osm_mirror.proofs.run_laws.TurnLaws.{starts_anew, keeps, grew_nothing, refused_before, loop_refused, loop_first}
 use Rattle.osm_mirror.proofs.run_laws.TurnLaws.{last_refused}
 use Rattle.osm_mirror.proofs.run_laws.TurnLaws.{ways_refused, anew_refused}
 use Rattle.osm_mirror.proofs.run.files_job.run_files.Goals as goal

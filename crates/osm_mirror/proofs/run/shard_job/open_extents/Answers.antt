@@ -1,4 +1,4 @@
-use Rattle.std.proofs.Common.{◌∙◌, List, ◌∷◌, ◌++◌, [], ℕ, Option, take, length, Bor, arith, sym, ap, subst, length-append, inl, inr}
+use Rattle.std.proofs.Common.{List, ◌∷◌, ◌++◌, [], ℕ, Option, take, length, Bor, arith, sym, ap, subst, length-append}
 use Rattle.std.proofs.lemmas.Result.{err_from_is_err_and}
 use Rattle.std.proofs.lemmas.List.{take_all}
 use Rattle.osm_files.specs.FileInput.{FramedCanGive}

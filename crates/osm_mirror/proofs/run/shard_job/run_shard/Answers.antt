@@ -1,4 +1,4 @@
-use Rattle.std.proofs.Common.{◌∙◌, List, ℕ, Option, Bor, refl, sym}
+use Rattle.std.proofs.Common.{List, ℕ, Option, Bor, refl}
 use Rattle.osm_files.specs.Change.{change_of}
 use Rattle.osm_merge.proofs.UnionLaws.{nothing_appended as at_first}
 use Rattle.osm_mirror.specs.run.Bounds.{shard_span}

@@ -1,4 +1,4 @@
-use Rattle.std.proofs.Common.{◌∙◌, List, ℕ, Option, Bor, ap, length, arith, sym, subst}
+use Rattle.std.proofs.Common.{List, ℕ, Option, Bor, ap, length, arith}
 use Rattle.std.proofs.lemmas.Result.{err_from_is_err_and}
 use Rattle.osm_files.specs.Change.{change_of}
 use Rattle.osm_files.specs.FileInput.{FramedCanGive}
