@@ -46,6 +46,7 @@ impl EncoderSegment {
         }
     }
 
+    #[inline(always)]
     #[tactic(auto, unfolding(crate::specs::Writing::tags_spelling))]
     fn append_tags(&mut self, out: &mut SetBuffer, tags: &[Tag]) -> Result<(), Memory>
         ensures { OnOk result (AppendsSpelling out.old out.new self.new (spec.tags_spelling tags.now self.old)) }
