@@ -1,17 +1,13 @@
 -- The form of an entry, the bytes of both strings together, and the end of the first string determine the entry.
-use Rattle.std.proofs.Common.{◌≡◌, ℕ, ◌++◌, Bool, true, false, ◌&&◌, List, take, drop, refl, ap, sym, ◌∙◌, inl, inr}
+use Rattle.std.proofs.Common.{◌≡◌, ℕ, ◌++◌, true, false, ◌&&◌, List, take, drop, ap, sym, ◌∙◌, inl, inr}
 use Rattle.std.proofs.lemmas.List.{take-append-drop}
 use Rattle.std.proofs.lemmas.Bool.{cases_Bool}
 use Rattle.std.specs.Str.{bytes_eq}
 use Rattle.std.specs.Cmp.Lexicographic.{bytes_decides}
+use Rattle.std.specs.Cmp.{both_ways}
 use Rattle.o5_codec.specs.declared.strings.Form.{Form}
 use Rattle.o5_codec.specs.Formed.{FormedEntry, formed_entry, same_form, same_entry}
 use Rattle.o5_codec.specs.SameEntry.{same_entry_decides}
-
-agree : (a b : Bool) → (a ≡ true → b ≡ true) → (b ≡ true → a ≡ true) → a ≡ b
-agree true b there back = sym (there refl)
-agree false true there back = back refl
-agree false false there back = refl
 
 -- the entry whose two strings are together `bytes`, and whose first string ends at `split`
 abbrev pub cut : Form → ℕ → List ℕ → FormedEntry
@@ -31,7 +27,7 @@ both_equal f g i xs ys form e =
 pub same_bytes : (f g : Form) (i j : ℕ) (xs ys : List ℕ) → i ≡ j → same_form f g ≡ true →
     bytes_eq xs ys ≡ same_entry (cut f i xs) (cut g j ys)
 same_bytes f g i j xs ys place form =
-    agree (bytes_eq xs ys) (same_entry (cut f i xs) (cut g i ys))
+    both_ways (bytes_eq xs ys) (same_entry (cut f i xs) (cut g i ys))
     (λ e. both_equal f g i xs ys form ((bytes_decides xs ys).0 e))
     (λ e. (bytes_decides xs ys).1 (whole f g i i xs ys ((same_entry_decides (cut f i xs) (cut g i ys)).0 e)))
     ∙ ap (λ k. same_entry (cut f i xs) (cut g k ys)) place

@@ -1,7 +1,7 @@
 -- A ring has its oldest item first, and a table is its reverse: the last items of a list are the first of its reverse.
-use Rattle.std.proofs.Common.{◌≡◌, ℕ, zero, suc, ◌-◌, ◌<◌, ◌≤◌, List, [], ◌∷◌, ◌++◌, reverse, length, take, drop, refl, ap, sym, ◌∙◌, arith}
+use Rattle.std.proofs.Common.{◌≡◌, ℕ, zero, suc, ◌-◌, ◌<◌, List, [], ◌∷◌, ◌++◌, reverse, length, take, drop, refl, ap, sym, ◌∙◌, arith}
 use Rattle.std.proofs.Common.{Some, None, nat_lt, if◌then◌else◌, inl, inr, length-drop}
-use Rattle.std.proofs.lemmas.List.{take-append-drop, reverse-append, length-reverse, take_all, take_at, get_or-reverse}
+use Rattle.std.proofs.lemmas.List.{take-append-drop, reverse-append, length-reverse, take_all, take_at, get_or-reverse, take-take}
 use Rattle.std.proofs.lemmas.Bool.{cases_lt, lt-ltb, le-ltb}
 use Rattle.std.proofs.lemmas.Option.{slice_get-get_or, slice_get_past}
 use Rattle.std.specs.List.{slice_get}
@@ -52,13 +52,7 @@ pub entry_from : (table : List EntryStrings) (n : ℕ) → (n ≡ 0 → ⊥) →
 entry_from table zero h = absurd (h refl)
 entry_from table (suc n) h = let e : suc n - 1 ≡ n = omega arith in ap (slice_get table) e
 
-take_twice : {X : Type 0} (n m : ℕ) (xs : List X) → n ≤ m → take n (take m xs) ≡ take n xs
-take_twice zero m xs h = refl
-take_twice (suc n) zero xs h = absurd (omega arith)
-take_twice (suc n) (suc m) [] h = refl
-take_twice (suc n) (suc m) (x ∷ xs) h = ap (λ ys. x ∷ ys) (take_twice n m xs (omega arith))
-
 -- A list that is cut after an item is added is the same, whether or not it was cut before.
 pub cons_twice : {X : Type 0} (n : ℕ) (x : X) (xs : List X) → take n (x ∷ take n xs) ≡ take n (x ∷ xs)
 cons_twice zero x xs = refl
-cons_twice (suc n) x xs = ap (λ ys. x ∷ ys) (take_twice n (suc n) xs (omega arith))
+cons_twice (suc n) x xs = ap (λ ys. x ∷ ys) (take-take n (suc n) xs (omega arith))

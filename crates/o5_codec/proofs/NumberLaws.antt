@@ -1,7 +1,7 @@
 -- A number is read exactly if its bytes spell it.
 use Rattle.std.proofs.Common.{◌≡◌, ℕ, ℤ, pos, negsuc, zero, suc, ◌+◌, ◌-◌, ◌*◌, ◌/◌, ◌%◌, ◌<◌, ◌≤◌, ◌^◌, true, false, eqb, ltb, List, []}
 use Rattle.std.proofs.Common.{◌∷◌, ◌++◌, length, refl, ap, sym, ◌∙◌, arith, Result, Ok, Err, inl, inr, subst, length-append, if◌then◌else◌}
-use Rattle.std.proofs.lemmas.Bool.{le-ltb, lt-ltb, cases_lt}
+use Rattle.std.proofs.lemmas.Bool.{le-ltb, lt-ltb, cases_lt, ltb-true}
 use Rattle.std.proofs.lemmas.Bool.Decides.{nat_tests}
 use Rattle.o5_codec.specs.declared.reason.O5Reason.{O5Reason}
 use Rattle.o5_codec.specs.declared.reason.O5Reason.TheVariants.{BadNumber}
@@ -45,10 +45,6 @@ groups_only (suc room) (b ∷ c ∷ front) rest n g short =
     rw (le-ltb b 128 g.0) (ap (λ r. with_low (b - 128) r) (groups_only room (c ∷ front) rest g.1.0 g.1.2 (omega arith))
     ∙ ap (λ k. Ok (k, rest)) (let e : (b - 128) + 128 * g.1.0 ≡ n = omega (arith, g.0, g.1.1) in e))
 
--- The test `ltb` decides whether a number is less.
-pub below : (n m : ℕ) → ltb n m ≡ true → n < m
-below n m h = grind (arith, nat_tests)
-
 -- A number that is read is spelled by the bytes before the rest.
 pub number_found : (bytes : List ℕ) (x : ℕ × List ℕ) → number_at bytes ≡ Ok x → NumberAtFront bytes x
 unfolding number_at
@@ -56,7 +52,7 @@ number_found bytes x h =
     let f = first_ok (groups_at 10 bytes) within_word x h in
     let t = tested_ok (ltb f.0.0 (2 ^ 64)) f.0 x BadNumber f.2 in
     let g = groups_found 10 bytes f.0 f.1 in
-    let fits : f.0.0 < 2 ^ 64 = below f.0.0 (2 ^ 64) t.0 in
+    let fits : f.0.0 < 2 ^ 64 = ltb-true f.0.0 (2 ^ 64) t.0 in
     let same : f.0 ≡ x = t.1 in
     let P : ℕ × List ℕ → Type 0 = λ y. NumberAtFront bytes y in
     subst P same (g.0, record { short = g.1; fits = fits; groups = g.2 }, g.3)

@@ -4,6 +4,7 @@ use Rattle.std.specs.Prelude.{All}
 use Rattle.std.specs.List.{list_all}
 use Rattle.std.proofs.lemmas.List.Folds.{list_all-append}
 use Rattle.std.proofs.lemmas.List.Elements.{All-cons}
+use Rattle.std.proofs.lemmas.Bool.{not-true, and_parts, and_from}
 use Rattle.osm_model.specs.declared.kind.Kind.{Kind}
 use Rattle.osm_model.specs.declared.kind.Kind.TheVariants as kind
 use Rattle.osm_model.specs.declared.tags.Tag.{Tag}
@@ -26,28 +27,28 @@ use Rattle.o5_codec.specs.Body.{with_seen, tag_at, longitude_at, latitude_at, no
 use Rattle.o5_codec.specs.Body.{member_at, relation_at, body_at, set_at}
 use Rattle.o5_codec.specs.Sound.{is_sound}
 use Rattle.o5_codec.specs.Earlier.{sets_at}
-use Rattle.o5_codec.proofs.SoundStrings.{first_ok, same_value, both_true, and_true}
+use Rattle.o5_codec.proofs.SoundStrings.{first_ok, same_value}
 use Rattle.o5_codec.proofs.SoundSteps.{is_version, is_meta, is_tag, is_member, id_ok, meta_ok, tag_ok, reference_ok, member_ok}
 use Rattle.o5_codec.proofs.SoundSteps.{longitude_ok, latitude_ok, longitude_range, latitude_range, items_ok}
 
 tags_texts : (tags : List Tag) → list_all is_tag tags ≡ true → list_all is_text (texts_of_tags tags) ≡ true
 tags_texts [] h = refl
 tags_texts (t ∷ tags) h =
-    let both = both_true (is_tag t) (list_all is_tag tags) h in
-    let texts = both_true (is_text t.key) (is_text t.value) both.0 in
-    and_true _ _ texts.0 (and_true _ _ texts.1 (tags_texts tags both.1))
+    let both = and_parts (is_tag t) (list_all is_tag tags) h in
+    let texts = and_parts (is_text t.key) (is_text t.value) both.0 in
+    and_from _ _ texts.0 (and_from _ _ texts.1 (tags_texts tags both.1))
 
 members_ids : (members : List Member) → list_all is_member members ≡ true → list_all is_id (ids_of_members members) ≡ true
 members_ids [] h = refl
 members_ids (m ∷ members) h =
-    let both = both_true (is_member m) (list_all is_member members) h in
-    and_true _ _ (both_true (is_id m.id) (is_text m.role) both.0).0 (members_ids members both.1)
+    let both = and_parts (is_member m) (list_all is_member members) h in
+    and_from _ _ (and_parts (is_id m.id) (is_text m.role) both.0).0 (members_ids members both.1)
 
 members_roles : (members : List Member) → list_all is_member members ≡ true → list_all is_text (roles_of members) ≡ true
 members_roles [] h = refl
 members_roles (m ∷ members) h =
-    let both = both_true (is_member m) (list_all is_member members) h in
-    and_true _ _ (both_true (is_id m.id) (is_text m.role) both.0).1 (members_roles members both.1)
+    let both = and_parts (is_member m) (list_all is_member members) h in
+    and_from _ _ (and_parts (is_id m.id) (is_text m.role) both.0).1 (members_roles members both.1)
 
 -- ids and texts of a body are in range
 abbrev is_body : Body → Bool
@@ -63,7 +64,7 @@ node_ok s bytes x sound h =
     let same : (Node lon.0.0 lat.0.0 tags.0.0, tags.0.1) ≡ x = cc in
     let all = items_ok tag_at is_tag tag_ok lat.0.1 lat.0.2 tags.0
     (latitude_ok lon.0.1 lon.0.2 lat.0 (longitude_ok s bytes lon.0 sound lon.1) lat.1) tags.1 in
-    (ap (λ y. is_body y.0) (sym same) ∙ and_true _ _ refl (tags_texts tags.0.0 all.0), ap (λ y. is_sound y.1) (sym same) ∙ all.1)
+    (ap (λ y. is_body y.0) (sym same) ∙ and_from _ _ refl (tags_texts tags.0.0 all.0), ap (λ y. is_sound y.1) (sym same) ∙ all.1)
 
 way_ok : (s : Segment) (bytes : List ℕ) (x : Body × Segment) → is_sound s ≡ true → way_at s bytes ≡ Ok x →
     (is_body x.0 ≡ true) × (is_sound x.1 ≡ true)
@@ -76,7 +77,7 @@ way_ok s bytes x sound h =
     let same : (Way ids.0.0 tags.0.0, tags.0.1) ≡ x = cc in
     let references = items_ok reference_at is_id reference_ok (with_seen s l.0) c.0.0 ids.0 sound ids.1 in
     let all = items_ok tag_at is_tag tag_ok ids.0.1 c.0.1 tags.0 references.1 tags.1 in
-    (ap (λ y. is_body y.0) (sym same) ∙ and_true _ _ references.0 (tags_texts tags.0.0 all.0), ap (λ y. is_sound y.1) (sym same) ∙ all.1)
+    (ap (λ y. is_body y.0) (sym same) ∙ and_from _ _ references.0 (tags_texts tags.0.0 all.0), ap (λ y. is_sound y.1) (sym same) ∙ all.1)
 
 relation_ok : (s : Segment) (bytes : List ℕ) (x : Body × Segment) → is_sound s ≡ true → relation_at s bytes ≡ Ok x →
     (is_body x.0 ≡ true) × (is_sound x.1 ≡ true)
@@ -89,8 +90,8 @@ relation_ok s bytes x sound h =
     let members = items_ok member_at is_member member_ok s c.0.0 m.0 sound m.1 in
     let all = items_ok tag_at is_tag tag_ok m.0.1 c.0.1 tags.0 members.1 tags.1 in
     let texts = list_all-append is_text (roles_of m.0.0) (texts_of_tags tags.0.0)
-    ∙ and_true _ _ (members_roles m.0.0 members.0) (tags_texts tags.0.0 all.0) in
-    (ap (λ y. is_body y.0) (sym same) ∙ and_true _ _ (members_ids m.0.0 members.0) texts, ap (λ y. is_sound y.1) (sym same) ∙ all.1)
+    ∙ and_from _ _ (members_roles m.0.0 members.0) (tags_texts tags.0.0 all.0) in
+    (ap (λ y. is_body y.0) (sym same) ∙ and_from _ _ (members_ids m.0.0 members.0) texts, ap (λ y. is_sound y.1) (sym same) ∙ all.1)
 
 body_ok : (k : Kind) (s : Segment) (bytes : List ℕ) (x : Body × Segment) → is_sound s ≡ true → body_at k s bytes ≡ Ok x →
     (is_body x.0 ≡ true) × (is_sound x.1 ≡ true)
@@ -101,25 +102,21 @@ body_ok kind.Node s (b ∷ bytes) x sound h = node_ok s (b ∷ bytes) x sound h
 body_ok kind.Way s (b ∷ bytes) x sound h = way_ok s (b ∷ bytes) x sound h
 body_ok kind.Relation s (b ∷ bytes) x sound h = relation_ok s (b ∷ bytes) x sound h
 
-not_true : (b : Bool) → not b ≡ true → b ≡ false
-not_true true h = cc
-not_true false h = refl
-
 no_fault : (id : ℤ) (meta : Meta) (body : Body) → is_id id ≡ true → is_meta meta ≡ true → is_body body ≡ true →
     first_fault id meta body ≡ None
 no_fault id meta body i m b =
-    let numbers = both_true (is_version meta.version && (is_number meta.changeset && is_number meta.uid)) _ m in
-    let version = both_true (is_version meta.version) _ numbers.0 in
-    let some = both_true (not (eqb meta.version 0)) (is_number meta.version) version.0 in
-    let author = both_true (is_number meta.changeset) (is_number meta.uid) version.1 in
-    let dated = both_true (is_time meta.time) _ numbers.1 in
-    let user = both_true (is_dated meta) (is_text meta.user) dated.1 in
-    let body_parts = both_true (list_all is_id (ids_of body)) _ b in
-    let above : eqb meta.version 0 ≡ false = not_true _ some.0 in
-    let ids : list_all is_id (id ∷ ids_of body) ≡ true = and_true _ _ i body_parts.0 in
+    let numbers = and_parts (is_version meta.version && (is_number meta.changeset && is_number meta.uid)) _ m in
+    let version = and_parts (is_version meta.version) _ numbers.0 in
+    let some = and_parts (not (eqb meta.version 0)) (is_number meta.version) version.0 in
+    let author = and_parts (is_number meta.changeset) (is_number meta.uid) version.1 in
+    let dated = and_parts (is_time meta.time) _ numbers.1 in
+    let user = and_parts (is_dated meta) (is_text meta.user) dated.1 in
+    let body_parts = and_parts (list_all is_id (ids_of body)) _ b in
+    let above : eqb meta.version 0 ≡ false = not-true _ some.0 in
+    let ids : list_all is_id (id ∷ ids_of body) ≡ true = and_from _ _ i body_parts.0 in
     let small : list_all is_number (meta.version ∷ meta.changeset ∷ meta.uid ∷ []) ≡ true =
-    and_true _ _ some.1 (and_true _ _ author.0 (and_true _ _ author.1 refl)) in
-    let texts : list_all is_text (meta.user ∷ texts_of body) ≡ true = and_true _ _ user.1 body_parts.1 in
+    and_from _ _ some.1 (and_from _ _ author.0 (and_from _ _ author.1 refl)) in
+    let texts : list_all is_text (meta.user ∷ texts_of body) ≡ true = and_from _ _ user.1 body_parts.1 in
     rw (ids, above, small, dated.0, user.0, texts) refl
 
 -- the data that the steps read has no fault

@@ -7,6 +7,7 @@ use Rattle.std.specs.Int.{w32, int_wrap}
 use Rattle.std.proofs.lemmas.Int.{SFits-int_wrap}
 use Rattle.std.specs.List.{list_all}
 use Rattle.std.proofs.lemmas.Bool.Decides.{nat_tests}
+use Rattle.std.proofs.lemmas.Bool.{and_parts, and_from}
 use Rattle.osm_model.specs.declared.kind.Kind.{Kind}
 use Rattle.osm_model.specs.declared.kind.Kind.TheVariants as kind
 use Rattle.osm_model.specs.declared.tags.Tag.{Tag}
@@ -32,7 +33,7 @@ use Rattle.o5_codec.specs.Segment.{author_after_changeset, author_at, time_of, m
 use Rattle.o5_codec.specs.Items.{items_up_to, items_at}
 use Rattle.o5_codec.specs.Body.{tag_at, kind_and_role, moved_member, with_member, member_at, reference_at, longitude_at, latitude_at}
 use Rattle.o5_codec.specs.Sound.{has_no_zero, is_entry, is_sound}
-use Rattle.o5_codec.proofs.SoundStrings.{first_ok, same_value, tested_ok, both_true, and_true, strings_ok, text_ok}
+use Rattle.o5_codec.proofs.SoundStrings.{first_ok, same_value, tested_ok, strings_ok, text_ok}
 
 -- ---- numbers
 pub within_ok : (n m : ℕ) → within_range n ≡ Ok m → is_number m ≡ true
@@ -98,7 +99,7 @@ version_ok bytes x h =
       | false ↦ λ e is. (let g = first_ok (within_range f.0.0) _ x is in
           let same : (g.0, f.0.1) ≡ x = cc in
           let t = tested_ok (ltb f.0.0 (2 ^ 32)) f.0.0 g.0 OutOfRange g.1 in
-          ap (λ y. is_version y.0) (sym same) ∙ and_true _ _ (ap (λ n. not (eqb n 0)) (sym t.1) ∙ ap not e) (within_ok f.0.0 g.0 g.1))
+          ap (λ y. is_version y.0) (sym same) ∙ and_from _ _ (ap (λ n. not (eqb n 0)) (sym t.1) ∙ ap not e) (within_ok f.0.0 g.0 g.1))
     ] refl f.2
 
 time_ok : (s : Segment) (bytes : List ℕ) (x : ℕ × Segment × List ℕ) → is_sound s ≡ true → time_at s bytes ≡ Ok x →
@@ -137,7 +138,7 @@ user_of_ok e x sound h =
     let f = first_ok (uid_of e.first) _ x h in
     let g = first_ok (text_of e.second) _ x f.2 in
     let same : (f.0, g.0) ≡ x = cc in
-    let strings = both_true (has_no_zero e.first) _ sound in
+    let strings = and_parts (has_no_zero e.first) _ sound in
     (ap (λ y. is_number y.0) (sym same) ∙ uid_ok e.first f.0 f.1, ap (λ y. is_text y.1) (sym same) ∙ text_ok e.second g.0 strings.1 g.1)
 
 user_ok : (s : Segment) (bytes : List ℕ) (x : (ℕ × List ℕ) × Segment × List ℕ) → is_sound s ≡ true → user_at s bytes ≡ Ok x →
@@ -164,12 +165,12 @@ after_ok : (x : ℕ × Segment × List ℕ) (y : Author × Segment × List ℕ) 
 unfolding author_after_changeset
 after_ok (changeset, s, []) y number sound h =
     let same : (author changeset 0 [], s, []) ≡ y = cc in
-    (ap (λ z. is_author z.0) (sym same) ∙ and_true _ _ number refl, ap (λ z. is_sound z.1) (sym same) ∙ sound)
+    (ap (λ z. is_author z.0) (sym same) ∙ and_from _ _ number refl, ap (λ z. is_sound z.1) (sym same) ∙ sound)
 after_ok (changeset, s, b ∷ bytes) y number sound h =
     let f = first_ok (user_at s (b ∷ bytes)) _ y h in
     let same : (author changeset f.0.0.0 f.0.0.1, f.0.1, f.0.2) ≡ y = cc in
     let user = user_ok s (b ∷ bytes) f.0 sound f.1 in
-    (ap (λ z. is_author z.0) (sym same) ∙ and_true _ _ number (and_true _ _ user.0.0 user.0.1), ap (λ z. is_sound z.1) (sym same) ∙ user.1)
+    (ap (λ z. is_author z.0) (sym same) ∙ and_from _ _ number (and_from _ _ user.0.0 user.0.1), ap (λ z. is_sound z.1) (sym same) ∙ user.1)
 
 -- Metadata is within its ranges.
 abbrev pub is_meta : Meta → Bool
@@ -178,16 +179,16 @@ is_meta m = (is_version m.version && (is_number m.changeset && is_number m.uid))
 timed_ok : (version time : ℕ) (a : Author) → is_version version ≡ true → is_number time ≡ true → eqb time 0 ≡ false → is_author a ≡ true →
     is_meta (meta_of version time a) ≡ true
 timed_ok version time a v t some h =
-    let c = both_true (is_number a.changeset) _ h in
-    let u = both_true (is_number a.uid) _ c.1 in
+    let c = and_parts (is_number a.changeset) _ h in
+    let u = and_parts (is_number a.uid) _ c.1 in
     let when : time_of time ≡ Some time = rw some refl in
     let above : ltb 0 time ≡ true = grind (arith, nat_tests) in
-    rw when (and_true _ _ (and_true _ _ v (and_true _ _ c.0 u.0)) (and_true _ _ (and_true _ _ above t) u.1))
+    rw when (and_from _ _ (and_from _ _ v (and_from _ _ c.0 u.0)) (and_from _ _ (and_from _ _ above t) u.1))
 
 untimed_ok : (version time : ℕ) → is_version version ≡ true → eqb time 0 ≡ true → is_meta (meta_of version time (author 0 0 [])) ≡ true
 untimed_ok version time v none =
     let when : time_of time ≡ None = rw none refl in
-    rw when (and_true _ _ (and_true _ _ v refl) refl)
+    rw when (and_from _ _ (and_from _ _ v refl) refl)
 
 -- Metadata that is read is within its ranges, and the segment stays sound.
 pub meta_ok : (s : Segment) (bytes : List ℕ) (x : Meta × Segment × List ℕ) → is_sound s ≡ true → meta_at s bytes ≡ Ok x →
@@ -251,10 +252,10 @@ unfolding tag_of
 tag_of_ok e t sound h =
     let f = first_ok (text_of e.first) _ t h in
     let g = first_ok (text_of e.second) _ t f.2 in
-    let strings = both_true (has_no_zero e.first) _ sound in
+    let strings = and_parts (has_no_zero e.first) _ sound in
     let made : Tag = record { key = f.0; value = g.0 } in
     let same : made ≡ t = cc in
-    ap is_tag (sym same) ∙ and_true _ _ (text_ok e.first f.0 strings.0 f.1) (text_ok e.second g.0 strings.1 g.1)
+    ap is_tag (sym same) ∙ and_from _ _ (text_ok e.first f.0 strings.0 f.1) (text_ok e.second g.0 strings.1 g.1)
 
 -- The texts of a tag that is read have no U+0000, and the segment stays sound.
 pub tag_ok : (s : Segment) (bytes : List ℕ) (x : Tag × Segment × List ℕ) → is_sound s ≡ true → tag_at s bytes ≡ Ok x →
@@ -276,7 +277,7 @@ role_ok [] x h is = cc
 role_ok (b ∷ role) x h is =
     let f = first_ok _ (λ k. Ok (k, role)) x is in
     let same : (f.0, role) ≡ x = cc in
-    ap (λ y. has_no_zero y.1) (sym same) ∙ (both_true (not (eqb b 0)) (has_no_zero role) h).1
+    ap (λ y. has_no_zero y.1) (sym same) ∙ (and_parts (not (eqb b 0)) (has_no_zero role) h).1
 
 moved_member_ok : (bases : Bases) (k : Kind) (difference : ℤ) (x : ℤ × Bases) → moved_member bases k difference ≡ Ok x → is_id x.0 ≡ true
 moved_member_ok bases kind.Node difference x h =
@@ -307,8 +308,8 @@ member_ok s bytes x sound h =
     let after : Segment = record { bases = id.0.1; table = y.0.1; seen = l.0 } in
     let same : (made, after, y.0.2) ≡ x = same_value _ _ role.2 in
     let strings = strings_ok Single s.table d.0.1 y.0 sound y.1 in
-    let first = both_true (has_no_zero y.0.0.first) _ strings.0 in (
-      ap (λ z. is_member z.0) (sym same) ∙ and_true _ _ (moved_member_ok s.bases m.0.0 d.0.0 id.0 id.1)
+    let first = and_parts (has_no_zero y.0.0.first) _ strings.0 in (
+      ap (λ z. is_member z.0) (sym same) ∙ and_from _ _ (moved_member_ok s.bases m.0.0 d.0.0 id.0 id.1)
           (text_ok m.0.1 role.0 (role_ok y.0.0.first m.0 first.0 m.1) role.1),
       ap (λ z. is_sound z.1) (sym same) ∙ strings.1,
     )
@@ -330,7 +331,7 @@ module _ {X : Type 0} (item_at : Segment → List ℕ → ReadStep X) (passes : 
       let same : (f.0.0 ∷ g.0.0, g.0.1) ≡ x = cc in
       let one = step s (b ∷ bytes) f.0 sound f.1 in
       let more = up_to_ok most f.0.1 f.0.2 g.0 one.1 g.1 in
-      (ap (λ y. list_all passes y.0) (sym same) ∙ and_true _ _ one.0 more.0, ap (λ y. is_sound y.1) (sym same) ∙ more.1)
+      (ap (λ y. list_all passes y.0) (sym same) ∙ and_from _ _ one.0 more.0, ap (λ y. is_sound y.1) (sym same) ∙ more.1)
 
   -- Items that are read pass the test that each item passes, and the segment stays sound.
   pub items_ok : (s : Segment) (bytes : List ℕ) (x : List X × Segment) → is_sound s ≡ true → items_at item_at s bytes ≡ Ok x →

@@ -1,10 +1,11 @@
 -- Strings have no zero byte, so their texts have no character U+0000.
-use Rattle.std.proofs.Common.{◌≡◌, ℕ, zero, suc, ◌+◌, Bool, true, false, not, eqb, ltb, cond, ◌&&◌, List, [], ◌∷◌, length, take, drop, refl}
+use Rattle.std.proofs.Common.{◌≡◌, ℕ, zero, suc, ◌+◌, Bool, true, false, not, eqb, ltb, cond, List, [], ◌∷◌, length, take, drop, refl}
 use Rattle.std.proofs.Common.{ap, sym, ◌∙◌, arith, Result, Ok, Err, Option, Some, None, if◌then◌else◌}
 use Rattle.std.specs.List.{list_all, list_any, prefix_len, slice_get}
 use Rattle.std.proofs.lemmas.Bool.Decides.{nat_tests}
 use Rattle.std.specs.Str.{chars, IsUtf8, is_utf8}
 use Rattle.std.proofs.lemmas.Str.{IsUtf8-from_is_utf8, encodes-chars, scalars-chars}
+use Rattle.std.proofs.lemmas.Bool.{and_parts, and_from}
 use Rattle.osm_model.specs.Text.{is_text, has_zero}
 use Rattle.osm_model.proofs.TextLaws.{zero_bytes}
 use Rattle.o5_codec.specs.declared.reason.O5Reason.{O5Reason}
@@ -40,34 +41,25 @@ pub tested_ok : {X : Type 0} (test : Bool) (x y : X) (reason : O5Reason) → (if
 tested_ok true x y reason h = (refl, cc)
 tested_ok false x y reason h = cc
 
--- If a conjunction is true, both parts are.
-pub both_true : (a b : Bool) → a && b ≡ true → (a ≡ true) × (b ≡ true)
-both_true true b h = (refl, h)
-both_true false b h = cc
-
--- Two true tests are true together.
-pub and_true : (a b : Bool) → a ≡ true → b ≡ true → a && b ≡ true
-and_true a b h g = rw (h, g) refl
-
 -- the elements before the first one that fails a test pass it
 prefix_passes : {X : Type 0} (p : X → Bool) (xs : List X) → list_all p (take (prefix_len p xs) xs) ≡ true
 prefix_passes p [] = refl
 prefix_passes p (x ∷ xs) =
     elim (p x) as (λ b. p x ≡ b → list_all p (take (cond b (1 + prefix_len p xs) 0) (x ∷ xs)) ≡ true) [
       | true ↦ λ e. (let one : 1 + prefix_len p xs ≡ suc (prefix_len p xs) = omega arith in
-          rw one (and_true (p x) _ e (prefix_passes p xs)))
+          rw one (and_from (p x) _ e (prefix_passes p xs)))
       | false ↦ λ e. refl
     ] refl
 
 take_passes : {X : Type 0} (p : X → Bool) (n : ℕ) (xs : List X) → list_all p xs ≡ true → list_all p (take n xs) ≡ true
 take_passes p zero xs h = refl
 take_passes p (suc n) [] h = refl
-take_passes p (suc n) (x ∷ xs) h = let g = both_true (p x) (list_all p xs) h in and_true (p x) _ g.0 (take_passes p n xs g.1)
+take_passes p (suc n) (x ∷ xs) h = let g = and_parts (p x) (list_all p xs) h in and_from (p x) _ g.0 (take_passes p n xs g.1)
 
 get_passes : {X : Type 0} (p : X → Bool) (xs : List X) (n : ℕ) (x : X) → list_all p xs ≡ true → slice_get xs n ≡ Some x → p x ≡ true
 get_passes p [] n x h is = cc
-get_passes p (y ∷ ys) zero x h is = let e : y ≡ x = cc in ap p (sym e) ∙ (both_true (p y) (list_all p ys) h).0
-get_passes p (y ∷ ys) (suc n) x h is = get_passes p ys n x (both_true (p y) (list_all p ys) h).1 is
+get_passes p (y ∷ ys) zero x h is = let e : y ≡ x = cc in ap p (sym e) ∙ (and_parts (p y) (list_all p ys) h).0
+get_passes p (y ∷ ys) (suc n) x h is = get_passes p ys n x (and_parts (p y) (list_all p ys) h).1 is
 
 -- A string that is read has no zero byte.
 pub string_ok : (bytes : List ℕ) (x : List ℕ × List ℕ) → string_at bytes ≡ Ok x → has_no_zero x.0 ≡ true
@@ -87,11 +79,11 @@ inline_ok Pair bytes x h =
     let f = first_ok (string_at bytes) _ x h in
     let g = first_ok (string_at f.0.1) _ x f.2 in
     let same : (entry_of f.0.0 g.0.0, g.0.1) ≡ x = cc in
-    ap (λ y. is_entry y.0) (sym same) ∙ and_true _ _ (string_ok bytes f.0 f.1) (string_ok f.0.1 g.0 g.1)
+    ap (λ y. is_entry y.0) (sym same) ∙ and_from _ _ (string_ok bytes f.0 f.1) (string_ok f.0.1 g.0 g.1)
 inline_ok Single bytes x h =
     let f = first_ok (string_at bytes) _ x h in
     let same : (entry_of f.0.0 [], f.0.1) ≡ x = cc in
-    ap (λ y. is_entry y.0) (sym same) ∙ and_true _ _ (string_ok bytes f.0 f.1) refl
+    ap (λ y. is_entry y.0) (sym same) ∙ and_from _ _ (string_ok bytes f.0 f.1) refl
 
 -- whether strings that are spelled inline have no zero byte
 abbrev pub is_spelled : StringRef → Bool
@@ -116,7 +108,7 @@ stored_ok : (e : EntryStrings) (table : List EntryStrings) → is_entry e ≡ tr
     list_all is_entry (table_with e table) ≡ true
 stored_ok e table h g =
     elim (is_short e) as (λ t. list_all is_entry (if t then take table_limit (e ∷ table) else table) ≡ true) [
-      | true ↦ take_passes is_entry table_limit (e ∷ table) (and_true _ _ h g)
+      | true ↦ take_passes is_entry table_limit (e ∷ table) (and_from _ _ h g)
       | false ↦ g
     ]
 
@@ -167,4 +159,4 @@ text_ok bytes characters h is =
     let utf8 : IsUtf8 bytes = IsUtf8-from_is_utf8 bytes t.0 in
     let zeros : list_any (λ b. eqb b 0) bytes ≡ has_zero (chars bytes) = ap (list_any (λ b. eqb b 0)) (sym (encodes-chars bytes utf8))
     ∙ zero_bytes (chars bytes) in
-    ap is_text (sym t.1) ∙ and_true _ _ (scalars-chars bytes utf8) (ap not (sym zeros) ∙ sym (not_any bytes) ∙ h)
+    ap is_text (sym t.1) ∙ and_from _ _ (scalars-chars bytes utf8) (ap not (sym zeros) ∙ sym (not_any bytes) ∙ h)

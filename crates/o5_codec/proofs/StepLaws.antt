@@ -4,6 +4,7 @@ use Rattle.std.proofs.Common.{refl, ap, sym, ◌∙◌, arith, Result, Ok, Err, 
 use Rattle.std.proofs.lemmas.List.{take-append-drop, length-take}
 use Rattle.std.proofs.lemmas.Bool.Decides.{nat_tests}
 use Rattle.std.proofs.Math.Seq.{take-append_seam, drop-append_seam}
+use Rattle.std.proofs.lemmas.Bool.{leb-true}
 use Rattle.osm_model.specs.declared.kind.Kind.{Kind}
 use Rattle.osm_model.specs.declared.kind.Kind.TheVariants as kind
 use Rattle.osm_model.specs.declared.tags.Tag.{Tag}
@@ -300,9 +301,6 @@ module _ {X : Type 0} (item_at : Segment → List ℕ → ReadStep X) (AtFront :
   items_only only s bytes xs end h = up_to_only only (length bytes) s bytes xs end (omega arith) h
 
 -- ---- bodies
-at_most : (n m : ℕ) → leb n m ≡ true → n ≤ m
-at_most n m h = grind (arith, nat_tests)
-
 -- If a section is read, the bytes spell it.
 pub section_found : (bytes : List ℕ) (x : List ℕ × List ℕ) → section_at bytes ≡ Ok x → SectionAtFront bytes x
 unfolding section_at
@@ -310,7 +308,7 @@ section_found bytes x h =
     let f = first_ok (number_at bytes) cut_at x h in
     let n : ℕ = f.0.0 in
     let t = tested_ok (leb n (length f.0.1)) (take n f.0.1, drop n f.0.1) x BadSection f.2 in
-    let inside : n ≤ length f.0.1 = at_most n (length f.0.1) t.0 in
+    let inside : n ≤ length f.0.1 = leb-true n (length f.0.1) t.0 in
     let long : length (take n f.0.1) ≡ n = length-take n f.0.1 ∙ omega arith in
     let P : List ℕ × List ℕ → Type 0 = λ y. SectionAtFront bytes y in
     let Q : ℕ × List ℕ → Type 0 = λ y. NumberAtFront bytes y in

@@ -2,7 +2,7 @@
 use Rattle.std.proofs.Common.{◌≡◌, ℕ, suc, ◌+◌, ◌<◌, inl, inr, true, false, not, eqb, ltb, cond, List, [], ◌∷◌, ◌++◌, length, take, drop}
 use Rattle.std.proofs.Common.{refl, ap, sym, ◌∙◌, arith, Result, Ok, Some, None, subst, length-append, if◌then◌else◌}
 use Rattle.std.specs.List.{prefix_len}
-use Rattle.std.proofs.lemmas.Bool.{lt-ltb}
+use Rattle.std.proofs.lemmas.Bool.{lt-ltb, and_parts}
 use Rattle.std.proofs.lemmas.Bool.Decides.{nat_tests}
 use Rattle.std.proofs.Math.Seq.{take-append_seam, drop-append-add}
 use Rattle.o5_codec.specs.declared.reason.O5Reason.{O5Reason}
@@ -18,7 +18,7 @@ use Rattle.o5_codec.specs.StringPair.{split_at_end, string_at, entry_of, inline_
 use Rattle.o5_codec.specs.Sound.{has_no_zero}
 use Rattle.o5_codec.specs.Spelling.{NumberAtFront, StringAtFront, InlineAtFront, StringsAtFront}
 use Rattle.o5_codec.proofs.ResultSteps.{read_next}
-use Rattle.o5_codec.proofs.SoundStrings.{first_ok, both_true, string_ok, referred_ok}
+use Rattle.o5_codec.proofs.SoundStrings.{first_ok, string_ok, referred_ok}
 use Rattle.o5_codec.proofs.NumberLaws.{number_found, number_only, number_shorter}
 
 abbrev before_zero : List ℕ → ℕ
@@ -44,7 +44,7 @@ split_at_zero (b ∷ bytes) h =
 zero_after : (string rest : List ℕ) → has_no_zero string ≡ true → before_zero (string ++ 0 ∷ rest) ≡ length string
 zero_after [] rest h = refl
 zero_after (b ∷ string) rest h =
-    let both = both_true (not (eqb b 0)) (has_no_zero string) h in
+    let both = and_parts (not (eqb b 0)) (has_no_zero string) h in
     rw both.0 (let e = zero_after string rest both.1 in omega arith)
 
 pub string_found : (bytes : List ℕ) (x : List ℕ × List ℕ) → string_at bytes ≡ Ok x → StringAtFront bytes x

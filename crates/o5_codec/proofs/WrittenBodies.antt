@@ -1,9 +1,10 @@
 -- The bodies of data sets that are written are read back.
-use Rattle.std.proofs.Common.{◌≡◌, ℕ, ℤ, ◌<◌, ◌^◌, ◌-ℤ◌, Bool, true, ◌&&◌, List, [], ◌∷◌, ◌++◌, map, length, refl, ap, sym, ◌∙◌, arith, Ok}
+use Rattle.std.proofs.Common.{◌≡◌, ℕ, ℤ, ◌<◌, ◌^◌, ◌-ℤ◌, true, List, [], ◌∷◌, ◌++◌, map, length, refl, ap, sym, ◌∙◌, arith, Ok}
 use Rattle.std.proofs.Common.{inl, inr, subst, append_assoc, length-append, FitsSigned, encode_utf8_all}
 use Rattle.std.specs.Int.{w32}
 use Rattle.std.specs.List.{list_all}
 use Rattle.std.proofs.lemmas.List.{append-nil}
+use Rattle.std.proofs.lemmas.Bool.{and_parts}
 use Rattle.osm_model.specs.declared.kind.Kind.{Kind}
 use Rattle.osm_model.specs.declared.kind.Kind.TheVariants as kind
 use Rattle.osm_model.specs.declared.tags.Tag.{Tag}
@@ -29,11 +30,11 @@ use Rattle.o5_codec.specs.Writing.{references_spelling, members_spelling, body_s
 use Rattle.o5_codec.specs.Agreement.{strings_in, reader_segment, IsEncoderSegment, MayHaveSeen}
 use Rattle.o5_codec.proofs.ResultSteps.{read_next}
 use Rattle.o5_codec.proofs.NumberLaws.{number_shorter, signed_shorter}
-use Rattle.o5_codec.proofs.SoundStrings.{both_true}
 use Rattle.o5_codec.proofs.WrittenNumbers.{number_back, id_difference, id_moved}
 use Rattle.o5_codec.proofs.WrittenStrings.{strings_back, text_back, role_back, role_spellable}
-use Rattle.o5_codec.proofs.WrittenSteps.{strings_keep, are_texts, tags_back, tags_keep, references_back, references_keep, longitude_back}
+use Rattle.o5_codec.proofs.WrittenSteps.{strings_keep, tags_back, tags_keep, references_back, references_keep, longitude_back}
 use Rattle.o5_codec.proofs.WrittenSteps.{longitude_keeps, latitude_back, latitude_keeps}
+use Rattle.o5_codec.proofs.SoundSteps.{is_member, is_tag}
 
 -- ---- members
 abbrev seen_with : Kind → ListsSeen → ListsSeen
@@ -189,10 +190,6 @@ member_keeps : (m : Member) (c : EncoderSegment) → IsEncoderSegment c → is_i
 unfolding member_spelling sequence
 member_keeps m c ok h = strings_keep (member_entry m.kind m.role) (member_id_spelling m.kind m.id c).1 (member_id_keeps m.kind m.id c ok h)
 
--- A member has an id and a role without U+0000.
-abbrev pub is_member : Member → Bool
-is_member m = is_id m.id && is_text m.role
-
 abbrev seen_with_all : List Member → ListsSeen → ListsSeen
 seen_with_all [] seen = seen
 seen_with_all (m ∷ members) seen = seen_with_all members (seen_with m.kind seen)
@@ -204,8 +201,8 @@ members_back : (members : List Member) (c : EncoderSegment) (seen : ListsSeen) �
 unfolding sequence
 members_back [] c seen ok may h = (refl, refl)
 members_back (m ∷ members) c seen ok may h =
-    let all = both_true (is_member m) (list_all is_member members) h in
-    let own = both_true (is_id m.id) (is_text m.role) all.0 in (
+    let all = and_parts (is_member m) (list_all is_member members) h in
+    let own = and_parts (is_id m.id) (is_text m.role) all.0 in (
       reader_segment (member_spelling m c).1 (seen_with m.kind seen),
       (sequence (map member_spelling members) (member_spelling m c).1).0,
       member_back m c seen (sequence (map member_spelling members) (member_spelling m c).1).0 ok may own.0 own.1,
@@ -217,8 +214,8 @@ members_keep : (members : List Member) (c : EncoderSegment) → IsEncoderSegment
 unfolding sequence
 members_keep [] c ok h = ok
 members_keep (m ∷ members) c ok h =
-    let all = both_true (is_member m) (list_all is_member members) h in
-    let own = both_true (is_id m.id) (is_text m.role) all.0 in
+    let all = and_parts (is_member m) (list_all is_member members) h in
+    let own = and_parts (is_id m.id) (is_text m.role) all.0 in
     members_keep members (member_spelling m c).1 (member_keeps m c ok own.0) all.1
 
 all_may : (members : List Member) (seen : ListsSeen) → MayHaveSeen kind.Relation seen →
@@ -236,7 +233,7 @@ members_in (Relation members tags) = members
 -- the conditions under which a body is read back
 pub record IsWritable (body : Body) : Type 0 where
   pub ids : list_all is_id (ids_of body) ≡ true
-  pub texts : list_all are_texts (tags_of body) ≡ true
+  pub texts : list_all is_tag (tags_of body) ≡ true
   pub location : IsInRange body
   pub roles : list_all is_member (members_in body) ≡ true
 
@@ -252,7 +249,7 @@ visible k s [] x spelled some = absurd (omega arith)
 visible k s (b ∷ bytes) x spelled some = spelled
 
 node_back : (lon lat : ℤ) (tags : List Tag) (c : EncoderSegment) (seen : ListsSeen) → IsEncoderSegment c → MayHaveSeen kind.Node seen →
-    FitsSigned w32 lon → FitsSigned w32 lat → list_all are_texts tags ≡ true →
+    FitsSigned w32 lon → FitsSigned w32 lat → list_all is_tag tags ≡ true →
     BodyBack kind.Node c seen (body_spelling (Node lon lat tags)) (Node lon lat tags)
 unfolding body_spelling sequence tags_spelling
 node_back lon lat tags c seen ok may lon_fits lat_fits texts =
@@ -297,7 +294,7 @@ section_back section rest small =
     (sym (append_assoc (shortest_number (length section)) section rest)) (number_back (length section) (section ++ rest) small)
 
 way_back : (ids : List ℤ) (tags : List Tag) (c : EncoderSegment) (seen : ListsSeen) → IsEncoderSegment c → MayHaveSeen kind.Way seen →
-    list_all is_id ids ≡ true → list_all are_texts tags ≡ true →
+    list_all is_id ids ≡ true → list_all is_tag tags ≡ true →
     length (sequence (map reference_spelling ids) c).0 < 2 ^ 64 → BodyBack kind.Way c seen (body_spelling (Way ids tags)) (Way ids tags)
 unfolding body_spelling sequence tags_spelling section_spelling references_spelling
 way_back ids tags c seen ok may are_ids texts small =
@@ -321,7 +318,7 @@ way_back ids tags c seen ok may are_ids texts small =
     )
 
 relation_back : (members : List Member) (tags : List Tag) (c : EncoderSegment) (seen : ListsSeen) → IsEncoderSegment c →
-    MayHaveSeen kind.Relation seen → list_all is_member members ≡ true → list_all are_texts tags ≡ true →
+    MayHaveSeen kind.Relation seen → list_all is_member members ≡ true → list_all is_tag tags ≡ true →
     length (sequence (map member_spelling members) c).0 < 2 ^ 64 →
     BodyBack kind.Relation c seen (body_spelling (Relation members tags)) (Relation members tags)
 unfolding body_spelling sequence tags_spelling section_spelling members_spelling

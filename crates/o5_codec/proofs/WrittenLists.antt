@@ -1,8 +1,8 @@
 -- Data sets in sequence that are written are read back.
-use Rattle.std.proofs.Common.{◌≡◌, ℕ, suc, ◌+◌, ◌<◌, ◌^◌, Bool, true, false, eqb, List, [], ◌∷◌, ◌++◌, length, refl, ap, sym, ◌∙◌, arith}
+use Rattle.std.proofs.Common.{◌≡◌, ℕ, suc, ◌+◌, ◌<◌, ◌^◌, Bool, true, false, List, [], ◌∷◌, ◌++◌, length, refl, ap, sym, ◌∙◌, arith}
 use Rattle.std.proofs.Common.{rules, inl, subst, append_assoc, length-append}
 use Rattle.std.specs.List.{All}
-use Rattle.std.proofs.lemmas.Bool.Decides.{nat_tests}
+use Rattle.std.proofs.lemmas.Bool.{eqb-false}
 use Rattle.osm_model.specs.declared.kind.Kind.{Kind}
 use Rattle.osm_model.specs.declared.kind.Kind.TheVariants as kind
 use Rattle.osm_model.specs.Data.{VersionData, kind_of}
@@ -122,30 +122,27 @@ lists_in_step (v ∷ versions) w seen h valid small =
     )
 
 -- ---- no other list
-heads : (a b : ℕ) (x y : List ℕ) → a ∷ x ≡ b ∷ y → a ≡ b
+pub heads : (a b : ℕ) (x y : List ℕ) → a ∷ x ≡ b ∷ y → a ≡ b
 heads a b x y e = cc
 
 tails : (a b : ℕ) (x y : List ℕ) → a ∷ x ≡ b ∷ y → x ≡ y
 tails a b x y e = cc
 
-apart : (a b : ℕ) → eqb a b ≡ false → a ≡ b → ⊥
-apart a b h e = grind (arith, nat_tests)
-
 one_type : (j k : Kind) → type_byte j ≡ type_byte k → j ≡ k
 one_type kind.Node kind.Node e = refl
-one_type kind.Node kind.Way e = absurd (apart 0x10 0x11 refl e)
-one_type kind.Node kind.Relation e = absurd (apart 0x10 0x12 refl e)
-one_type kind.Way kind.Node e = absurd (apart 0x11 0x10 refl e)
+one_type kind.Node kind.Way e = absurd (eqb-false 0x10 0x11 refl e)
+one_type kind.Node kind.Relation e = absurd (eqb-false 0x10 0x12 refl e)
+one_type kind.Way kind.Node e = absurd (eqb-false 0x11 0x10 refl e)
 one_type kind.Way kind.Way e = refl
-one_type kind.Way kind.Relation e = absurd (apart 0x11 0x12 refl e)
-one_type kind.Relation kind.Node e = absurd (apart 0x12 0x10 refl e)
-one_type kind.Relation kind.Way e = absurd (apart 0x12 0x11 refl e)
+one_type kind.Way kind.Relation e = absurd (eqb-false 0x11 0x12 refl e)
+one_type kind.Relation kind.Node e = absurd (eqb-false 0x12 0x10 refl e)
+one_type kind.Relation kind.Way e = absurd (eqb-false 0x12 0x11 refl e)
 one_type kind.Relation kind.Relation e = refl
 
 no_reset : (k : Kind) → 0xff ≡ type_byte k → ⊥
-no_reset kind.Node e = apart 0xff 0x10 refl e
-no_reset kind.Way e = apart 0xff 0x11 refl e
-no_reset kind.Relation e = apart 0xff 0x12 refl e
+no_reset kind.Node e = eqb-false 0xff 0x10 refl e
+no_reset kind.Way e = eqb-false 0xff 0x11 refl e
+no_reset kind.Relation e = eqb-false 0xff 0x12 refl e
 
 -- the bytes determine a reset, a type byte and the bytes after them
 same_begin : (b c : Bool) (j k : Kind) (x y : List ℕ) → reset_before b ++ type_byte j ∷ x ≡ reset_before c ++ type_byte k ∷ y →

@@ -1,7 +1,7 @@
 -- A number that is written is read back.
 use Rattle.std.proofs.Common.{◌≡◌, ℕ, ℤ, pos, negsuc, zero, suc, ◌+◌, ◌*◌, ◌/◌, ◌%◌, ◌<◌, ◌≤◌, ◌^◌, ◌+ℤ◌, ◌-ℤ◌, true, List, ◌++◌, length}
 use Rattle.std.proofs.Common.{refl, ap, ◌∙◌, arith, Ok, Err, inl, inr, if◌then◌else◌, unsigned_abs, FitsSigned}
-use Rattle.std.proofs.lemmas.Bool.{le-ltb, lt-ltb, cases_lt}
+use Rattle.std.proofs.lemmas.Bool.{le-ltb, lt-ltb, cases_lt, ltb-true}
 use Rattle.std.proofs.lemmas.Grind.{pow_more}
 use Rattle.std.proofs.lemmas.Int.{ints, int_wrap_fits}
 use Rattle.std.specs.Int.{w32, int_wrap}
@@ -10,7 +10,7 @@ use Rattle.o5_codec.specs.declared.reason.O5Reason.TheVariants.{OutOfRange}
 use Rattle.o5_codec.specs.Number.{AreGroups, SpellsNumber, unsigned_of}
 use Rattle.o5_codec.specs.Base.{moved_id, within_range, number_within, moved_number, moved_coordinate}
 use Rattle.o5_codec.specs.Spelling.{NumberAtFront, SignedAtFront}
-use Rattle.o5_codec.proofs.NumberLaws.{longer, below}
+use Rattle.o5_codec.proofs.NumberLaws.{longer}
 use Rattle.o5_codec.specs.Shortest.{groups_of, shortest_number, shortest_signed, difference}
 
 groups_spell : (more n : ℕ) → n < 128 ^ suc more → AreGroups (groups_of more n) n
@@ -55,8 +55,8 @@ again a b = omega (arith, ints)
 -- The bytes written for the difference of two ids spell it.
 pub id_difference : (a b : ℤ) (rest : List ℕ) → is_id a ≡ true → is_id b ≡ true → SignedAtFront (difference a b ++ rest) (b -ℤ a, rest)
 id_difference a b rest ha hb =
-    let sa : unsigned_abs a < 2 ^ 62 = below _ _ ha in
-    let sb : unsigned_abs b < 2 ^ 62 = below _ _ hb in
+    let sa : unsigned_abs a < 2 ^ 62 = ltb-true _ _ ha in
+    let sb : unsigned_abs b < 2 ^ 62 = ltb-true _ _ hb in
     signed_back (b -ℤ a) rest (small_unsigned (b -ℤ a) (omega (arith, ints)))
 
 -- The base moves from one id to another by their difference.

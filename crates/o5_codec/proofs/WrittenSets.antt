@@ -3,8 +3,7 @@ use Rattle.std.proofs.Common.{◌≡◌, ℕ, ◌<◌, ◌^◌, true, false, eqb
 use Rattle.std.proofs.Common.{Some, None, inl, inr, subst, length-append, unwrap_or}
 use Rattle.std.specs.Option.{ForSome}
 use Rattle.std.specs.List.{list_all}
-use Rattle.std.specs.List.Sorted.{IsStrictlySortedBy}
-use Rattle.std.proofs.lemmas.Bool.{cond-false}
+use Rattle.std.proofs.lemmas.Bool.{cond-false, and_parts}
 use Rattle.std.proofs.lemmas.Bool.Decides.{nat_tests}
 use Rattle.std.proofs.lemmas.List.{append-nil}
 use Rattle.std.proofs.lemmas.List.Folds.{list_all-append}
@@ -12,15 +11,13 @@ use Rattle.osm_model.specs.declared.tags.Tag.{Tag}
 use Rattle.osm_model.specs.declared.members.Member.{Member}
 use Rattle.osm_model.specs.declared.body.Body.{Body}
 use Rattle.osm_model.specs.declared.body.Body.TheVariants.{Deleted, Node, Way, Relation}
-use Rattle.osm_model.specs.Data.{VersionData, kind_of, ids_of, tags_of, texts_of, normal_body, version_of}
+use Rattle.osm_model.specs.Data.{VersionData, kind_of, ids_of, texts_of, version_of}
 use Rattle.osm_model.specs.Id.{is_id}
 use Rattle.osm_model.specs.Text.{is_text}
-use Rattle.osm_model.specs.Tags.{tag_cmp, normal_tags, texts_of_tags}
+use Rattle.osm_model.specs.Tags.{texts_of_tags}
 use Rattle.osm_model.specs.Members.{ids_of_members, roles_of}
 use Rattle.osm_model.specs.Valid.{IsInRange, IsVersion}
-use Rattle.osm_model.proofs.SetLaws.{to_list-from_list}
-use Rattle.osm_model.proofs.TagLaws.{tag_cmp-IsAntisymmetric, list_all-texts_of_tags}
-use Rattle.osm_model.specs.Tags.{tag_cmp_total}
+use Rattle.osm_model.proofs.TagLaws.{list_all-texts_of_tags, body_again}
 use Rattle.o5_codec.specs.declared.read.segment.Segment.{Segment}
 use Rattle.o5_codec.specs.Author.{Author}
 use Rattle.o5_codec.specs.declared.read.segment.ListsSeen.{ListsSeen}
@@ -32,11 +29,11 @@ use Rattle.o5_codec.specs.Writing.{EncoderSegment, WriteStep, sequence, fixed_by
 use Rattle.o5_codec.specs.Writing.{strings_spelling}
 use Rattle.o5_codec.specs.Writing.{user_entry, author_steps, author_spelling, body_spelling, content_spelling}
 use Rattle.o5_codec.specs.Agreement.{reader_segment, IsEncoderSegment, MayHaveSeen}
-use Rattle.o5_codec.proofs.SoundStrings.{both_true}
 use Rattle.o5_codec.proofs.StringLaws.{strings_shorter}
 use Rattle.o5_codec.proofs.WrittenSteps.{id_back, id_keeps, time_back, time_keeps, changeset_back, changeset_keeps, version_back}
-use Rattle.o5_codec.proofs.WrittenSteps.{strings_keep, user_at_front, are_texts}
-use Rattle.o5_codec.proofs.WrittenBodies.{IsWritable, body_back, is_member, two_bytes}
+use Rattle.o5_codec.proofs.WrittenSteps.{strings_keep, user_at_front}
+use Rattle.o5_codec.proofs.WrittenBodies.{IsWritable, body_back, two_bytes}
+use Rattle.o5_codec.proofs.SoundSteps.{is_member, is_tag}
 
 -- ---- the author
 user_after : (changeset : ℕ) (s : Segment) (bytes : List ℕ) (user : ℕ × List ℕ) (end : Segment) (rest : List ℕ) →
@@ -90,7 +87,7 @@ author_by : (o : Option ℕ) (c : EncoderSegment) (seen : ListsSeen) (v : Versio
 unfolding sequence
 author_by None c seen v rest is ok valid dated = (no_author c seen v rest is (valid.author is), ok)
 author_by (Some t) c seen v rest is ok valid dated = (
-  some_author c seen v t rest ok is (dated t refl).0 valid.changeset valid.uid (both_true _ _ valid.texts).0,
+  some_author c seen v t rest ok is (dated t refl).0 valid.changeset valid.uid (and_parts _ _ valid.texts).0,
   strings_keep (user_entry v.uid v.user) (changeset_spelling v.changeset c).1 (changeset_keeps c v.changeset ok valid.changeset),
 )
 
@@ -108,15 +105,6 @@ time_again : (o : Option ℕ) → ForSome o (λ t. (0 < t) × (t < 2 ^ 32)) → 
 time_again None h = refl
 time_again (Some t) h = cond-false (eqb t 0) None (Some t) (let some : 0 < t = (h t refl).0 in grind (arith, nat_tests))
 
-tags_again : (tags : List Tag) → IsStrictlySortedBy tag_cmp tags → normal_tags tags ≡ tags
-tags_again tags sorted = to_list-from_list tag_cmp_total tag_cmp-IsAntisymmetric tags sorted
-
-body_again : (body : Body) → IsStrictlySortedBy tag_cmp (tags_of body) → normal_body body ≡ body
-body_again (Deleted k) sorted = refl
-body_again (Node lon lat tags) sorted = ap (Node lon lat) (tags_again tags sorted)
-body_again (Way refs tags) sorted = ap (Way refs) (tags_again tags sorted)
-body_again (Relation members tags) sorted = ap (Relation members) (tags_again tags sorted)
-
 version_again : (v : VersionData) → IsVersion v → v ≡ version_of v.id (meta_of v.number (unwrap_or v.time 0) (author_of v)) v.body
 version_again v valid = λ i. record {
   id = v.id;
@@ -129,15 +117,15 @@ version_again v valid = λ i. record {
 }
 
 -- ---- the requirements of a version's body
-texts_there : (tags : List Tag) → list_all is_text (texts_of_tags tags) ≡ true → list_all are_texts tags ≡ true
+texts_there : (tags : List Tag) → list_all is_text (texts_of_tags tags) ≡ true → list_all is_tag tags ≡ true
 texts_there tags h = sym (list_all-texts_of_tags is_text tags) ∙ h
 
 members_there : (members : List Member) → list_all is_id (ids_of_members members) ≡ true → list_all is_text (roles_of members) ≡ true →
     list_all is_member members ≡ true
 members_there [] ids roles = refl
 members_there (m ∷ members) ids roles =
-    let id = both_true (is_id m.id) (list_all is_id (ids_of_members members)) ids in
-    let role = both_true (is_text m.role) (list_all is_text (roles_of members)) roles in
+    let id = and_parts (is_id m.id) (list_all is_id (ids_of_members members)) ids in
+    let role = and_parts (is_text m.role) (list_all is_text (roles_of members)) roles in
     λ i. (id.0 i && role.0 i) && members_there members id.1 role.1 i
 
 writable : (body : Body) → list_all is_id (ids_of body) ≡ true → list_all is_text (texts_of body) ≡ true → IsInRange body → IsWritable body
@@ -145,7 +133,7 @@ writable (Deleted k) ids texts location = record { ids = refl; texts = refl; loc
 writable (Node lon lat tags) ids texts location = record { ids = refl; texts = texts_there tags texts; location = location; roles = refl }
 writable (Way refs tags) ids texts location = record { ids = ids; texts = texts_there tags texts; location = location; roles = refl }
 writable (Relation members tags) ids texts location =
-    let both = both_true (list_all is_text (roles_of members)) (list_all is_text (texts_of_tags tags))
+    let both = and_parts (list_all is_text (roles_of members)) (list_all is_text (texts_of_tags tags))
     (sym (list_all-append is_text (roles_of members) (texts_of_tags tags)) ∙ texts) in
     record { ids = ids; texts = texts_there tags both.1; location = location; roles = members_there members ids both.0 }
 
@@ -164,8 +152,8 @@ pub set_back : (v : VersionData) (c : EncoderSegment) (seen : ListsSeen) → IsV
     length (content_spelling v c).0 < 2 ^ 64 → IsReadBack v c seen
 unfolding content_spelling sequence fixed_bytes
 set_back v c seen valid ok may small =
-    let ids = both_true (is_id v.id) (list_all is_id (ids_of v.body)) valid.ids in
-    let texts = both_true (is_text v.user) (list_all is_text (texts_of v.body)) valid.texts in
+    let ids = and_parts (is_id v.id) (list_all is_id (ids_of v.body)) valid.ids in
+    let texts = and_parts (is_text v.user) (list_all is_text (texts_of v.body)) valid.texts in
     let time : ℕ = unwrap_or v.time 0 in
     let time_small : time < 2 ^ 32 = times_are_small v.time valid.time in
     let c1 : EncoderSegment = (id_spelling v.id c).1 in

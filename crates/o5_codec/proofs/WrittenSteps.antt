@@ -1,9 +1,9 @@
 -- The steps of a data set that are written are read back.
-use Rattle.std.proofs.Common.{◌≡◌, ℕ, ℤ, pos, ◌<◌, ◌^◌, ◌-ℤ◌, Bool, true, false, eqb, ◌&&◌, List, [], ◌∷◌, ◌++◌, map, refl, arith}
+use Rattle.std.proofs.Common.{◌≡◌, ℕ, ℤ, pos, ◌<◌, ◌^◌, ◌-ℤ◌, true, false, eqb, List, [], ◌∷◌, ◌++◌, map, refl, arith}
 use Rattle.std.proofs.Common.{FitsSigned}
 use Rattle.std.specs.Int.{w32}
 use Rattle.std.specs.List.{list_all}
-use Rattle.std.proofs.lemmas.Bool.{lt-ltb}
+use Rattle.std.proofs.lemmas.Bool.{lt-ltb, and_parts}
 use Rattle.std.proofs.lemmas.Bool.Decides.{nat_tests}
 use Rattle.osm_model.specs.declared.tags.Tag.{Tag}
 use Rattle.osm_model.specs.Id.{is_id}
@@ -17,10 +17,10 @@ use Rattle.o5_codec.specs.Formed.{FormedEntry}
 use Rattle.o5_codec.specs.Writing.{EncoderSegment, sequence, id_spelling, time_spelling, changeset_spelling, longitude_spelling}
 use Rattle.o5_codec.specs.Writing.{latitude_spelling, reference_spelling, strings_spelling, user_entry, tag_entry, tag_spelling}
 use Rattle.o5_codec.specs.Agreement.{strings_in, reader_segment, IsEncoderSegment}
-use Rattle.o5_codec.proofs.SoundStrings.{both_true}
 use Rattle.o5_codec.proofs.WrittenNumbers.{number_back, id_difference, id_moved, number_difference, number_moved, coordinate_difference}
 use Rattle.o5_codec.proofs.WrittenNumbers.{coordinate_moved}
 use Rattle.o5_codec.proofs.WrittenStrings.{strings_back, strings_few, user_back, tag_back, user_spellable, tag_spellable}
+use Rattle.o5_codec.proofs.SoundSteps.{is_tag}
 
 -- ---- one value
 pub id_back : (c : EncoderSegment) (seen : ListsSeen) (id : ℤ) (rest : List ℕ) → IsEncoderSegment c → is_id id ≡ true →
@@ -244,18 +244,15 @@ tag_at_front c seen tag rest ok key value = (
 )
 
 -- ---- lists to the end of some bytes
-abbrev pub are_texts : Tag → Bool
-are_texts tag = is_text tag.key && is_text tag.value
-
 -- Tags that are written are read back.
-pub tags_back : (tags : List Tag) (c : EncoderSegment) (seen : ListsSeen) → IsEncoderSegment c → list_all are_texts tags ≡ true →
+pub tags_back : (tags : List Tag) (c : EncoderSegment) (seen : ListsSeen) → IsEncoderSegment c → list_all is_tag tags ≡ true →
     ItemsInAll TagAtFront (reader_segment c seen) (sequence (map tag_spelling tags) c).0 tags
     (reader_segment (sequence (map tag_spelling tags) c).1 seen)
 unfolding sequence
 tags_back [] c seen ok texts = (refl, refl)
 tags_back (tag ∷ tags) c seen ok texts =
-    let all = both_true (are_texts tag) (list_all are_texts tags) texts in
-    let own = both_true (is_text tag.key) (is_text tag.value) all.0 in (
+    let all = and_parts (is_tag tag) (list_all is_tag tags) texts in
+    let own = and_parts (is_text tag.key) (is_text tag.value) all.0 in (
       reader_segment (tag_spelling tag c).1 seen,
       (sequence (map tag_spelling tags) (tag_spelling tag c).1).0,
       tag_at_front c seen tag (sequence (map tag_spelling tags) (tag_spelling tag c).1).0 ok own.0 own.1,
@@ -275,7 +272,7 @@ pub references_back : (ids : List ℤ) (c : EncoderSegment) (seen : ListsSeen) �
 unfolding sequence
 references_back [] c seen ok h = (refl, refl)
 references_back (id ∷ ids) c seen ok h =
-    let all = both_true (is_id id) (list_all is_id ids) h in (
+    let all = and_parts (is_id id) (list_all is_id ids) h in (
       reader_segment (reference_spelling id c).1 seen,
       (sequence (map reference_spelling ids) (reference_spelling id c).1).0,
       reference_back c seen id (sequence (map reference_spelling ids) (reference_spelling id c).1).0 ok all.0,
@@ -287,5 +284,5 @@ pub references_keep : (ids : List ℤ) (c : EncoderSegment) → IsEncoderSegment
     IsEncoderSegment (sequence (map reference_spelling ids) c).1
 unfolding sequence
 references_keep [] c ok h = ok
-references_keep (id ∷ ids) c ok h = let all = both_true (is_id id) (list_all is_id ids) h in
+references_keep (id ∷ ids) c ok h = let all = and_parts (is_id id) (list_all is_id ids) h in
     references_keep ids (reference_spelling id c).1 (reference_keeps c id ok all.0) all.1

@@ -3,7 +3,7 @@ use Rattle.std.proofs.Common.{◌≡◌, ℕ, zero, suc, ◌+◌, ◌/◌, ◌<�
 use Rattle.std.proofs.Common.{◌∙◌, arith, Option, Some, None, Ok, inl, inr, subst, append_assoc, encode_utf8_all}
 use Rattle.std.specs.Option.{option_map}
 use Rattle.std.specs.Str.{is_utf8}
-use Rattle.std.proofs.lemmas.Bool.{le-ltb, lt-ltb, cases_lt, cases_Bool, cond-true, cond-false}
+use Rattle.std.proofs.lemmas.Bool.{le-ltb, lt-ltb, cases_lt, cases_Bool, cond-true, cond-false, and_parts}
 use Rattle.std.proofs.lemmas.Bool.Decides.{nat_tests}
 use Rattle.std.proofs.lemmas.List.{take-map, length-take, append-nil}
 use Rattle.std.proofs.lemmas.Str.{is_utf8-from_IsUtf8, chars-encodes}
@@ -29,7 +29,7 @@ use Rattle.o5_codec.specs.Writing.{uid_string, user_entry, tag_entry, member_ent
 use Rattle.o5_codec.proofs.IndexSteps.{Within, within}
 use Rattle.o5_codec.proofs.ResultSteps.{read_next}
 use Rattle.o5_codec.proofs.NumberLaws.{number_only, number_shorter}
-use Rattle.o5_codec.proofs.SoundStrings.{both_true, not_any}
+use Rattle.o5_codec.proofs.SoundStrings.{not_any}
 use Rattle.o5_codec.proofs.WrittenNumbers.{number_back, number_ranged, shortest_spells}
 
 -- a reference that is written names the strings for a reader
@@ -119,13 +119,13 @@ strings_few e table few = few_by e table (reference_to e table) few
 
 -- ---- texts
 pub text_no_zero : (cs : List ℕ) → is_text cs ≡ true → has_no_zero (encode_utf8_all cs) ≡ true
-text_no_zero cs h = not_any (encode_utf8_all cs) ∙ ap not (zero_bytes cs) ∙ (both_true _ _ h).1
+text_no_zero cs h = not_any (encode_utf8_all cs) ∙ ap not (zero_bytes cs) ∙ (and_parts _ _ h).1
 
 -- The bytes of a text are read as the text.
 pub text_back : (cs : List ℕ) → is_text cs ≡ true → text_of (encode_utf8_all cs) ≡ Ok cs
 unfolding text_of
 text_back cs h =
-    let scalar = (both_true _ _ h).0 in
+    let scalar = (and_parts _ _ h).0 in
     let valid : is_utf8 (encode_utf8_all cs) ≡ true = is_utf8-from_IsUtf8 (encode_utf8_all cs) (cs, (scalar, refl)) in
     rw valid (ap (λ t. Ok t) (chars-encodes cs scalar))
 

@@ -9,7 +9,8 @@ use Rattle.std.specs.Char.{is_ascii_digit}
 use Rattle.osm_model.specs.Numeral.{pad_zeros}
 use Rattle.osm_model.specs.Decimal.{number_text}
 use Rattle.osm_model.specs.Coordinate.{digit_before, without_last_zeros, fraction_text, degrees_text, coordinate_text}
-use Rattle.osm_model.proofs.NumeralLaws.{length-numeral-le, length-padded}
+use Rattle.osm_model.proofs.NumeralLaws.{length-padded}
+use Rattle.osm_model.proofs.DecimalLaws.{length-number-le}
 use Rattle.opl_line.specs.declared.bytes.cut.Delimiter.TheVariants.{Points}
 use Rattle.opl_line.specs.declared.reason.OplReason.TheVariants.{BadCoordinate, OutOfRange}
 use Rattle.opl_line.specs.Results.{and_then, as_value}
@@ -26,10 +27,6 @@ short_read : (text : List ℕ) (most n : ℕ) → IsRead 10 with_digit is_ascii_
 short_read text most n is few =
     (λ i. cond (numeral_is text is.some is.digits i && le-leb (length text) most few i) (Ok (decimal_value text)) (Err BadCoordinate))
     ∙ ap (λ v. Ok v) is.value
-
-number_short : (n k : ℕ) → 0 < k → n < 10 ^ k → length (number_text n) ≤ k
-unfolding number_text
-number_short n k some small = length-numeral-le 10 k n (omega arith) some small
 
 -- digits, and the digits without the zeros at their end
 pub record Trimmed (n : ℕ) (digits left : List ℕ) : Type 0 where
@@ -92,7 +89,7 @@ some_left units digits (d ∷ ds) other value t = omega arith
 decimals : (units : ℕ) → units < 10_000_000 → (units ≡ 0 → ⊥) → Decimals units (without_last_zeros (pad_zeros 7 (number_text units)))
 unfolding pad_zeros
 decimals units small other =
-    let short = number_short units 7 (omega arith) small in
+    let short = length-number-le 7 units (omega arith) small in
     let wide : length (pad_zeros 7 (number_text units)) ≡ 7 = length-padded 7 (number_text units) short in
     let is = zeros_read 10 with_digit is_ascii_digit (7 - length (number_text units)) units (number_text units) refl refl (decimal units) in
     let t = trimmed 0 (pad_zeros 7 (number_text units)) is.digits in
@@ -117,7 +114,7 @@ degrees_read units small =
     let part = units % 10_000_000 in
     let is = decimal (units / 10_000_000) in
     let lacks = all_weaker is_ascii_digit (λ b. not (eqb b 46)) no_point whole is.digits in
-    let read = short_read whole 3 (units / 10_000_000) is (number_short (units / 10_000_000) 3 (omega arith) (omega arith)) in
+    let read = short_read whole 3 (units / 10_000_000) is (length-number-le 3 (units / 10_000_000) (omega arith) (omega arith)) in
     elim (eqb part 0) as (λ t. eqb part 0 ≡ t → reading_degrees
     (degree_parts (whole ++ cond t [] (46 ∷ without_last_zeros (pad_zeros 7 (number_text part))))).0
     (degree_parts (whole ++ cond t [] (46 ∷ without_last_zeros (pad_zeros 7 (number_text part))))).1 ≡ Ok units) [

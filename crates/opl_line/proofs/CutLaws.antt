@@ -1,7 +1,7 @@
 -- The first cut of a text, and its pieces.
 use Rattle.std.proofs.Common.{◌≡◌, ℕ, zero, suc, ◌+◌, ◌<◌, ◌≤◌, Bool, true, false, not, ◌&&◌, cond, List, [], ◌∷◌, ◌++◌, length, take, drop}
 use Rattle.std.proofs.Common.{get_or, refl, ap, ◌∙◌, arith, add-one, Option, Some, None, position, ltb}
-use Rattle.std.proofs.lemmas.Bool.{and_parts, ltb-true, ltb-false, lt-ltb, le-ltb}
+use Rattle.std.proofs.lemmas.Bool.{and_parts, ltb-true, ltb-false, lt-ltb, le-ltb, not-true}
 use Rattle.std.proofs.lemmas.Bool.Decides.{nat_tests}
 use Rattle.std.proofs.lemmas.List.Folds.{list_all_more}
 use Rattle.std.proofs.lemmas.List.Sums.{passes_at_first, position_or_len_is}
@@ -11,7 +11,6 @@ use Rattle.std.specs.Str.{IsUtf8, IsCharBoundary}
 use Rattle.opl_line.specs.declared.bytes.cut.Delimiter.{Delimiter}
 use Rattle.opl_line.specs.declared.bytes.cut.Delimiter.TheVariants.{Blanks, Commas, Equals, Ats, Percents, Points}
 use Rattle.opl_line.specs.Delimiter.{is_end, with_byte, split_first, with_first_byte, split_all, pieces_of}
-use Rattle.opl_line.proofs.BoolLaws.{not_true}
 
 module _ (p : ℕ → Bool) where
   -- the part split off is the first piece
@@ -139,7 +138,7 @@ module _ (p : ℕ → Bool) where
   split_front [] rest b none is = rw is refl
   split_front (x ∷ xs) rest b none is =
       let parts = and_parts (not (p x)) (list_all (λ y. not (p y)) xs) none in
-      ap (λ t. cond t ([], Some (xs ++ b ∷ rest)) (with_byte x (split_first p (xs ++ b ∷ rest)))) (not_true (p x) parts.0)
+      ap (λ t. cond t ([], Some (xs ++ b ∷ rest)) (with_byte x (split_first p (xs ++ b ∷ rest)))) (not-true (p x) parts.0)
       ∙ ap (with_byte x) (split_front xs rest b parts.1 is)
 
   -- A text of which all bytes fail the test is its own first piece.
@@ -147,4 +146,4 @@ module _ (p : ℕ → Bool) where
   split_never [] none = refl
   split_never (x ∷ xs) none =
       let parts = and_parts (not (p x)) (list_all (λ y. not (p y)) xs) none in
-      ap (λ t. cond t ([], Some xs) (with_byte x (split_first p xs))) (not_true (p x) parts.0) ∙ ap (with_byte x) (split_never xs parts.1)
+      ap (λ t. cond t ([], Some xs) (with_byte x (split_first p xs))) (not-true (p x) parts.0) ∙ ap (with_byte x) (split_never xs parts.1)

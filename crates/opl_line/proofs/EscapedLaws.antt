@@ -1,7 +1,7 @@
 -- Canonical texts are read back.
 use Rattle.std.proofs.Common.{◌≡◌, ℕ, ◌+◌, ◌-◌, ◌*◌, ◌/◌, ◌%◌, ◌^◌, ◌<◌, ◌≤◌, true, false, not, cond, eqb, ltb, ◌&&◌, List, [], ◌∷◌, ◌++◌}
 use Rattle.std.proofs.Common.{length, replicate, Some, None, refl, sym, ap, ◌∙◌, subst, append_assoc, arith}
-use Rattle.std.proofs.lemmas.Bool.{and_parts, le-leb}
+use Rattle.std.proofs.lemmas.Bool.{and_parts, le-leb, or_parts, not-true}
 use Rattle.std.proofs.lemmas.Bool.Decides.{nat_tests}
 use Rattle.std.proofs.lemmas.List.{length-append, length-replicate}
 use Rattle.std.proofs.lemmas.List.Folds.{list_all-append}
@@ -18,7 +18,6 @@ use Rattle.osm_model.proofs.EscapeLaws.{escape_char-raw, escape_char-other}
 use Rattle.opl_line.specs.Text.{is_literal, is_hex_digit, with_hex_digit, hex_value, is_hex, scalar_of}
 use Rattle.opl_line.specs.Content.{SpellsText, raw, escaped}
 use Rattle.opl_line.specs.Canonical.{TextIsReadBack}
-use Rattle.opl_line.proofs.BoolLaws.{neither, not_true}
 use Rattle.opl_line.proofs.CanonicalLaws.{IsRead, is_read, zeros_read}
 
 -- raw bytes in front of a text
@@ -122,7 +121,7 @@ text_spelled : (cs : List ℕ) → scalars cs ≡ true → has_zero cs ≡ false
 text_spelled [] sc none = raw [] refl
 text_spelled (c ∷ cs) sc none =
     let all = and_parts (scalar c) (scalars cs) sc in
-    let zeros = neither (eqb c 0) (has_zero cs) none in
+    let zeros = or_parts (eqb c 0) (has_zero cs) none in
     char_spelled c (escape cs) (encodes cs) all.0 zeros.0 (text_spelled cs all.1 zeros.1)
 
 -- The escaped form of a text spells the text.
@@ -131,7 +130,7 @@ text_is_read_back cs is =
     let parts = and_parts (scalars cs) (not (has_zero cs)) is in
     record {
       text = encodes cs;
-      spelled = text_spelled cs parts.0 (not_true (has_zero cs) parts.1);
+      spelled = text_spelled cs parts.0 (not-true (has_zero cs) parts.1);
       characters =
           sym (chars-encodes cs parts.0);
     }

@@ -1,6 +1,8 @@
 -- Fields that are refused are faulty, and conversely.
 use Rattle.std.proofs.Common.{◌≡◌, ◌⊎◌, ℕ, Bool, true, false, cond, eqb, ◌||◌, List, [], ◌∷◌, ◌++◌, map, fold, Some, Result, Ok, Err, refl}
 use Rattle.std.proofs.Common.{sym, ap, ◌∙◌, subst, inl, inr, ⊎_elim}
+use Rattle.std.proofs.lemmas.Bool.{or_parts}
+use Rattle.std.proofs.Math.Bool.{or-false}
 use Rattle.osm_model.specs.declared.kind.Kind.{Kind}
 use Rattle.osm_model.specs.declared.kind.Kind.TheVariants as kind
 use Rattle.opl_line.specs.declared.general.field.Fields.{Fields}
@@ -16,7 +18,6 @@ use Rattle.opl_line.specs.Field.{with_body_field, with_field, reading_field, rea
 use Rattle.opl_line.specs.Part.{LinePart, letter_of, with_part}
 use Rattle.opl_line.specs.LineReason.{ContentReason, number, deleted, changeset, time, uid, user, tags, longitude, latitude, references}
 use Rattle.opl_line.specs.LineReason.{members, body_letters, letters_of, is_among, FieldReason, repeated, unknown, ill_formed, FieldsReason}
-use Rattle.opl_line.proofs.BoolLaws.{neither}
 use Rattle.opl_line.proofs.PartLaws.{choose, met, unmet, parts_of, read_of}
 use Rattle.opl_line.proofs.ReasonLaws.{still_refused, user_refused, no_text_read, tags_refused, tags_reported, references_refused}
 use Rattle.opl_line.proofs.ReasonLaws.{references_reported, members_refused, members_reported}
@@ -103,22 +104,22 @@ pass letter at here there out other e = ap (λ t. cond t here there) other ∙ e
 unknown_body : (k : Kind) (letter : ℕ) (content : List ℕ) (fields : Fields) → is_among letter (body_letters k) ≡ false →
     with_body_field k letter content fields ≡ Err UnknownField
 unknown_body kind.Node letter content fields none =
-    let x = neither (eqb letter 120) _ none in
-    let y = neither (eqb letter 121) _ x.1 in
+    let x = or_parts (eqb letter 120) _ none in
+    let y = or_parts (eqb letter 121) _ x.1 in
     pass letter 120 _ _ _ x.0 (pass letter 121 _ _ _ y.0 refl)
-unknown_body kind.Way letter content fields none = pass letter 78 _ _ _ (neither (eqb letter 78) _ none).0 refl
-unknown_body kind.Relation letter content fields none = pass letter 77 _ _ _ (neither (eqb letter 77) _ none).0 refl
+unknown_body kind.Way letter content fields none = pass letter 78 _ _ _ (or_parts (eqb letter 78) _ none).0 refl
+unknown_body kind.Relation letter content fields none = pass letter 77 _ _ _ (or_parts (eqb letter 77) _ none).0 refl
 
 unknown_reported : (k : Kind) (letter : ℕ) (content : List ℕ) (fields : Fields) → is_among letter (letters_of k) ≡ false →
     with_field k letter content fields ≡ Err UnknownField
 unknown_reported k letter content fields none =
-    let v = neither (eqb letter 118) _ none in
-    let d = neither (eqb letter 100) _ v.1 in
-    let c = neither (eqb letter 99) _ d.1 in
-    let t = neither (eqb letter 116) _ c.1 in
-    let i = neither (eqb letter 105) _ t.1 in
-    let u = neither (eqb letter 117) _ i.1 in
-    let g = neither (eqb letter 84) _ u.1 in
+    let v = or_parts (eqb letter 118) _ none in
+    let d = or_parts (eqb letter 100) _ v.1 in
+    let c = or_parts (eqb letter 99) _ d.1 in
+    let t = or_parts (eqb letter 116) _ c.1 in
+    let i = or_parts (eqb letter 105) _ t.1 in
+    let u = or_parts (eqb letter 117) _ i.1 in
+    let g = or_parts (eqb letter 84) _ u.1 in
     pass letter 118 _ _ _ v.0 (pass letter 100 _ _ _ d.0
     (pass letter 99 _ _ _ c.0 (pass letter 116 _ _ _ t.0 (pass letter 105 _ _ _ i.0 (pass letter 117 _ _ _ u.0 (pass letter 84 _ _ _ g.0
     (unknown_body k letter content fields g.1)))))))
@@ -186,10 +187,6 @@ shuffled true false c = refl
 shuffled false true c = refl
 shuffled false false c = refl
 
-or_false : (b : Bool) → (b || false) ≡ b
-or_false true = refl
-or_false false = refl
-
 met_from : (fields : Fields) (parts : List LinePart) (l : ℕ) →
     has_field (fold with_part fields parts) l ≡ (is_among l (map letter_of parts) || has_field fields l)
 met_from fields [] l = refl
@@ -199,7 +196,7 @@ met_from fields (p ∷ ps) l =
 
 met_by : (parts : List LinePart) (l : ℕ) → has_field (fold with_part no_fields parts) l ≡ is_among l (map letter_of parts)
 met_by parts l = met_from no_fields parts l ∙ ap (λ t. is_among l (map letter_of parts) || t) (unmet l)
-    ∙ or_false (is_among l (map letter_of parts))
+    ∙ or-false (is_among l (map letter_of parts))
 
 -- ---- the first faulty field
 record Split (k : Kind) (fields : Fields) (pieces : List (List ℕ)) (reason : OplReason) : Type 0 where

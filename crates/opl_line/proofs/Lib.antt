@@ -1,4 +1,3 @@
-pub mod BoolLaws
 pub mod CutLaws
 pub mod NumberLaws
 pub mod TextLaws

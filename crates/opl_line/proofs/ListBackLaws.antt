@@ -4,6 +4,7 @@ use Rattle.std.proofs.Common.{subst, arith}
 use Rattle.std.proofs.lemmas.Bool.{and_parts, eqb-true}
 use Rattle.std.proofs.lemmas.List.{length-append}
 use Rattle.std.specs.List.{list_all}
+use Rattle.std.proofs.Math.Nat.{ne_of_gt}
 use Rattle.osm_model.specs.declared.tags.Tag.{Tag}
 use Rattle.osm_model.specs.declared.members.Member.{Member}
 use Rattle.osm_model.specs.Kind.{kind_letter}
@@ -18,7 +19,7 @@ use Rattle.osm_model.specs.Line.{tag_text, reference_text, member_text, list_tex
 use Rattle.osm_model.specs.Pairwise.{Pairwise}
 use Rattle.osm_model.proofs.Separators.{Lacks, comma, equals, at}
 use Rattle.osm_model.proofs.EscapeLaws.{escape_lacks}
-use Rattle.osm_model.proofs.LineLaws.{tag_lacks, reference_lacks, member_lacks, object_lacks, differs}
+use Rattle.osm_model.proofs.LineLaws.{tag_lacks, reference_lacks, member_lacks, object_lacks}
 use Rattle.opl_line.specs.declared.bytes.cut.Delimiter.TheVariants.{Commas, Equals, Ats}
 use Rattle.opl_line.specs.Delimiter.{is_end, split_all, pieces_of}
 use Rattle.opl_line.specs.Content.{SpellsCharacters, SpellsTag, SpellsReference, SpellsMember, SpellsList}
@@ -129,8 +130,8 @@ members_spelled (m ∷ ms) ids texts =
 -- The lists of a canonical line spell their items.
 pub lists_are_spelled : ListsAreSpelled
 lists_are_spelled = (
-  (λ tags texts. list_spelled tag_text (tag_lacks comma (differs 61 44 (omega arith))) some_tag SpellsTag tags (tags_spelled tags texts)),
+  (λ tags texts. list_spelled tag_text (tag_lacks comma (ne_of_gt (omega arith))) some_tag SpellsTag tags (tags_spelled tags texts)),
   (λ ids all. list_spelled reference_text (reference_lacks comma) (λ id. omega arith) SpellsReference ids (references_spelled ids all)),
-  (λ ms ids texts. list_spelled member_text (member_lacks comma (differs 64 44 (omega arith))) (λ m. omega arith) SpellsMember ms
+  (λ ms ids texts. list_spelled member_text (member_lacks comma (ne_of_gt (omega arith))) (λ m. omega arith) SpellsMember ms
       (members_spelled ms ids texts)),
 )

@@ -3,21 +3,16 @@ use Rattle.std.proofs.Common.{◌≡◌, ℕ, ℤ, ◌^◌, ◌<◌, true, false
 use Rattle.std.proofs.lemmas.Bool.{lt-ltb}
 use Rattle.std.proofs.lemmas.Bool.Decides.{nat_tests}
 use Rattle.std.specs.List.{list_all}
-use Rattle.std.specs.List.Sorted.{IsStrictlySortedBy}
 use Rattle.std.specs.Option.{ForSome}
-use Rattle.osm_model.specs.declared.tags.Tag.{Tag}
 use Rattle.osm_model.specs.declared.meta.Meta.{Meta}
 use Rattle.osm_model.specs.declared.body.Body.{Body}
-use Rattle.osm_model.specs.declared.body.Body.TheVariants.{Deleted, Node, Way, Relation}
 use Rattle.osm_model.specs.declared.fault.ValueFault.TheVariants as fault
 use Rattle.osm_model.specs.Id.{is_id}
 use Rattle.osm_model.specs.Text.{is_empty, is_text}
-use Rattle.osm_model.specs.Tags.{tag_cmp, tag_cmp_total, normal_tags}
-use Rattle.osm_model.specs.Data.{VersionData, tags_of, ids_of, texts_of, normal_body, version_of}
+use Rattle.osm_model.specs.Data.{VersionData, ids_of, texts_of, version_of}
 use Rattle.osm_model.specs.New.{is_number, is_time, is_dated, first_of_tests, first_fault, unless_faulty, version_or_fault}
 use Rattle.osm_model.specs.Valid.{IsVersion}
-use Rattle.osm_model.proofs.SetLaws.{to_list-from_list}
-use Rattle.osm_model.proofs.TagLaws.{tag_cmp-IsAntisymmetric}
+use Rattle.osm_model.proofs.TagLaws.{body_again}
 
 -- data that passes each test
 pub record Passes (id : ℤ) (meta : Meta) (b : Body) : Type 0 where
@@ -58,15 +53,6 @@ valid_author : (time : Option ℕ) (changeset uid : ℕ) (user : List ℕ) (numb
 valid_author None changeset uid user number h = let none = h refl in λ i. eqb (none.0 i) 0 && (eqb (none.1 i) 0 && is_empty (none.2 i))
 valid_author (Some t) changeset uid user number h = refl
 
-same_tags : (tags : List Tag) → IsStrictlySortedBy tag_cmp tags → normal_tags tags ≡ tags
-same_tags tags h = to_list-from_list tag_cmp_total tag_cmp-IsAntisymmetric tags h
-
-same_body : (b : Body) → IsStrictlySortedBy tag_cmp (tags_of b) → normal_body b ≡ b
-same_body (Deleted k) h = refl
-same_body (Node lon lat tags) h = ap (Node lon lat) (same_tags tags h)
-same_body (Way refs tags) h = ap (Way refs) (same_tags tags h)
-same_body (Relation members tags) h = ap (Relation members) (same_tags tags h)
-
 -- The data of a version makes that version.
 pub version_made : (v : VersionData) → IsVersion v → version_or_fault v.id (meta_of_version v) v.body ≡ Ok v
 version_made v is =
@@ -79,4 +65,4 @@ version_made v is =
       dated = valid_author v.time v.changeset v.uid v.user v.number is.author;
       texts = is.texts;
     })
-    ∙ (λ i. Ok (record v { body = same_body v.body is.tags i }))
+    ∙ (λ i. Ok (record v { body = body_again v.body is.tags i }))

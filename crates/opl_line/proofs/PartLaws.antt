@@ -2,7 +2,7 @@
 use Rattle.std.proofs.Common.{◌≡◌, ℕ, Bool, true, false, cond, eqb, ◌||◌, List, [], ◌∷◌, map, fold, filter, nat_eq, Some, Result, Ok, Err}
 use Rattle.std.proofs.Common.{refl, sym, ap, ◌∙◌, subst, arith}
 use Rattle.std.specs.List.{IsDistinct, AllByRecursion}
-use Rattle.std.proofs.lemmas.Bool.{eqb-true}
+use Rattle.std.proofs.lemmas.Bool.{eqb-true, or_parts}
 use Rattle.std.proofs.lemmas.Bool.Decides.{nat_tests}
 use Rattle.osm_model.specs.declared.kind.Kind.{Kind}
 use Rattle.osm_model.specs.declared.kind.Kind.TheVariants as kind
@@ -19,7 +19,6 @@ use Rattle.opl_line.specs.Part.{letter_of, SpellsContent, IsPartOf, SpellsPart, 
 use Rattle.opl_line.specs.Spells.{is_full}
 use Rattle.opl_line.proofs.NumeralLaws.{number_sound, number_complete, count_sound, count_complete, deleted_sound, deleted_complete}
 use Rattle.opl_line.proofs.PlaceLaws.{time_sound, time_complete, place_sound, place_complete}
-use Rattle.opl_line.proofs.BoolLaws.{neither}
 use Rattle.opl_line.proofs.ContentLaws.{characters_sound, characters_complete, tags_sound, tags_complete, references_sound}
 use Rattle.opl_line.proofs.ContentLaws.{references_complete, members_sound, members_complete}
 
@@ -246,7 +245,7 @@ dropped : (fields : Fields) (part : LinePart) (ps : List LinePart) →
     AllByRecursion (λ l. has_field (with_part fields part) l ≡ false) (map letter_of ps) →
     AllByRecursion (λ l. has_field fields l ≡ false) (map letter_of ps)
 dropped fields part [] h = tt
-dropped fields part (p ∷ ps) h = ((neither _ _ (sym (met fields part (letter_of p)) ∙ h.0)).1, dropped fields part ps h.1)
+dropped fields part (p ∷ ps) h = ((or_parts _ _ (sym (met fields part (letter_of p)) ∙ h.0)).1, dropped fields part ps h.1)
 
 fresh_all : (fields : Fields) (parts : List LinePart) → Different fields parts →
     AllByRecursion (λ l. has_field fields l ≡ false) (map letter_of parts)
@@ -258,7 +257,7 @@ apart_all : (fields : Fields) (part : LinePart) (parts : List LinePart) →
     AllByRecursion (λ l. nat_eq (letter_of part) l ≡ false) (map letter_of parts)
 apart_all fields part [] h = tt
 apart_all fields part (p ∷ ps) h = (
-  symmetric (letter_of p) (letter_of part) (neither _ _ (sym (met fields part (letter_of p)) ∙ h.0)).0,
+  symmetric (letter_of p) (letter_of part) (or_parts _ _ (sym (met fields part (letter_of p)) ∙ h.0)).0,
   apart_all fields part ps h.1,
 )
 

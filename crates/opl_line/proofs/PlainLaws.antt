@@ -4,6 +4,7 @@ use Rattle.std.proofs.Common.{take, map, replicate, refl, sym, ap, ◌∙◌, ar
 use Rattle.std.proofs.lemmas.Bool.Decides.{nat_tests}
 use Rattle.std.proofs.lemmas.List.{take_all}
 use Rattle.std.specs.List.{list_all}
+use Rattle.std.proofs.Math.Bool.{not-not}
 use lib.Lanes.{zip2, mask_l, top}
 use Rattle.opl_line.specs.Delimiter.{with_byte, split_first}
 use Rattle.osm_model.specs.Escape.{is_raw_byte}
@@ -19,10 +20,6 @@ module _ (p : ℕ → Bool) where
         | true ↦ λ is. refl
         | false ↦ λ is. λ i. not (is i) && front_fails bs i
       ] refl
-
-twice : (b : Bool) → b ≡ not (not b)
-twice true = refl
-twice false = refl
 
 -- a byte that isn't a raw character by itself
 abbrev is_odd : ℕ → Bool
@@ -59,7 +56,7 @@ module _ (passes : ℕ → Bool) where
   fails b = not (passes b)
 
   front_passes : (bytes : List ℕ) → list_all passes (split_first fails bytes).0 ≡ true
-  front_passes bytes = ap (λ q. list_all q (split_first fails bytes).0) (λ i b. twice (passes b) i) ∙ front_fails fails bytes
+  front_passes bytes = ap (λ q. list_all q (split_first fails bytes).0) (λ i b. sym (not-not (passes b)) i) ∙ front_fails fails bytes
 
   -- The bytes before the first that fails pass.
   pub passing_before : (bytes : List ℕ) (n : ℕ) → position fails bytes ≡ Some n → list_all passes (take n bytes) ≡ true

@@ -1,7 +1,7 @@
 -- The end of the raw characters of a text.
 use Rattle.std.proofs.Common.{◌≡◌, ℕ, ◌+◌, ◌<◌, Bool, true, false, not, cond, eqb, ◌&&◌, List, [], ◌∷◌, ◌++◌, length, take, drop, get_or}
 use Rattle.std.proofs.Common.{Some, None, Ok, position, refl, sym, ap, ◌∙◌, add-one}
-use Rattle.std.proofs.lemmas.Bool.{and_parts}
+use Rattle.std.proofs.lemmas.Bool.{and_parts, not-true}
 use Rattle.std.proofs.lemmas.List.{take-append-drop}
 use Rattle.std.proofs.Math.Seq.{drop-cons}
 use Rattle.std.specs.List.{list_all}
@@ -11,7 +11,6 @@ use Rattle.opl_line.specs.declared.bytes.cut.Delimiter.TheVariants.{Percents}
 use Rattle.opl_line.specs.Delimiter.{is_end, with_byte, split_first}
 use Rattle.opl_line.specs.declared.reason.OplReason.TheVariants.{BadText}
 use Rattle.opl_line.specs.Text.{is_literal, text_from, text_of_pieces}
-use Rattle.opl_line.proofs.BoolLaws.{not_true}
 use Rattle.opl_line.proofs.CutLaws.{split_at, split_nowhere, split_front, split_never}
 use Rattle.opl_line.proofs.ContentLaws.{all_weaker, raw_no_percent}
 use Rattle.opl_line.proofs.TextLaws.{all_read}
@@ -49,7 +48,7 @@ raw_end bytes n found =
     record {
       within = within;
       raw = sym (ap (λ parts. list_all is_literal parts.0) s.split) ∙ front_raw bytes;
-      other = not_true (is_literal (get_or bytes n 0)) s.passes;
+      other = not-true (is_literal (get_or bytes n 0)) s.passes;
       whole = sym (take-append-drop n bytes) ∙ ap (λ t. take n bytes ++ t) (rw (add-one, drop-cons bytes n 0 within) refl);
     }
 
@@ -70,7 +69,7 @@ unraw [] rest b all other apart =
 unraw (x ∷ xs) rest b all other apart =
     let parts = and_parts (is_literal x) (list_all is_literal xs) all in
     ap (λ t. list_all is_literal (cond t ([], Some (xs ++ b ∷ rest))
-    (with_byte x (split_first (is_end Percents) (xs ++ b ∷ rest)))).0) (not_true (eqb x 37) (raw_no_percent x parts.0))
+    (with_byte x (split_first (is_end Percents) (xs ++ b ∷ rest)))).0) (not-true (eqb x 37) (raw_no_percent x parts.0))
     ∙ (λ i. parts.0 i && unraw xs rest b parts.1 other apart i)
 
 -- If another byte than a percent sign ends the raw characters, the first piece isn't raw.

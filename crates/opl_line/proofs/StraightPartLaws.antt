@@ -21,11 +21,12 @@ use Rattle.opl_line.proofs.NumberLaws.{numeral_below}
 digit_back : (d : ℕ) → is_ascii_digit d ≡ true → digit_char (d - 48) ≡ d
 digit_back d is = grind (arith, nat_tests)
 
-record IsDigit (d : ℕ) : Type 0 where
-  low : 48 ≤ d
-  high : d ≤ 57
+-- the range of a digit
+pub record IsDigit (d : ℕ) : Type 0 where
+  pub low : 48 ≤ d
+  pub high : d ≤ 57
 
-digit : (d : ℕ) → is_ascii_digit d ≡ true → IsDigit d
+pub digit : (d : ℕ) → is_ascii_digit d ≡ true → IsDigit d
 digit d is = let range = and_parts _ _ is in record { low = leb-true 48 d range.0; high = leb-true d 57 range.1 }
 
 -- the text of a number of one digit is the digit

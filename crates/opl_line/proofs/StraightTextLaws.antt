@@ -6,7 +6,7 @@ use Rattle.std.proofs.lemmas.Bool.Decides.{nat_tests}
 use Rattle.std.proofs.lemmas.Grind.{flat_map-append}
 use Rattle.std.proofs.lemmas.List.{take-append-drop, take_rest}
 use Rattle.std.proofs.lemmas.List.Folds.{list_any-append, list_all-append}
-use Rattle.std.proofs.lemmas.Str.{encode_ascii}
+use Rattle.std.proofs.lemmas.Str.{encode_ascii, encodes-append}
 use Rattle.std.proofs.Math.Seq.{take-add}
 use Rattle.std.specs.List.{list_all}
 use Rattle.std.specs.Str.{chars, IsUtf8}
@@ -15,6 +15,7 @@ use Rattle.osm_model.specs.Text.{is_text, has_zero}
 use Rattle.osm_model.specs.Escape.{escape, escape_char, is_raw, is_raw_byte, IsPlain}
 use Rattle.osm_model.proofs.EscapeLaws.{escape_char-raw, length-escape_char-some}
 use Rattle.osm_model.proofs.TextLaws.{text_chars}
+use Rattle.osm_model.proofs.RawLaws.{raw_of_two}
 use Rattle.opl_line.specs.Straight.{AreRaw}
 
 two_bytes : (c : ℕ) → 0x80 ≤ c → c < 0x800 → encode c ≡ (192 + c / 64) ∷ (128 + c % 64) ∷ []
@@ -35,9 +36,6 @@ raw_two lead next c low high raw first second = raw_one c (lead ∷ next ∷ [])
 raw_latin : (c : ℕ) → 0xA1 ≤ c → c < 0xC0 → (c ≡ 0xAD → ⊥) → is_raw c ≡ true
 raw_latin c low high other = grind (arith, nat_tests)
 
-raw_more : (c : ℕ) → 0xC0 ≤ c → c < 0x600 → is_raw c ≡ true
-raw_more c low high = grind (arith, nat_tests)
-
 -- C2 and a byte from A1 to BF other than AD are a raw character.
 pub latin_pair : (lead next : ℕ) → lead ≡ 0xC2 → 0xA1 ≤ next → next ≤ 0xBF → (next ≡ 0xAD → ⊥) → AreRaw (lead ∷ next ∷ [])
 latin_pair lead next is low high other = raw_two lead next next (omega arith) (omega arith) (raw_latin next low (omega arith) other)
@@ -47,7 +45,7 @@ latin_pair lead next is low high other = raw_two lead next next (omega arith) (o
 pub other_pair : (lead next : ℕ) → 0xC3 ≤ lead → lead ≤ 0xD7 → 0x80 ≤ next → next ≤ 0xBF → AreRaw (lead ∷ next ∷ [])
 other_pair lead next low high from to =
     let c = 64 * (lead - 192) + (next - 128) in
-    raw_two lead next c (omega arith) (omega arith) (raw_more c (omega arith) (omega arith)) (omega arith) (omega arith)
+    raw_two lead next c (omega arith) (omega arith) (raw_of_two c (omega arith) (omega arith)) (omega arith) (omega arith)
 
 raw_byte : (byte : ℕ) → is_raw_byte byte ≡ true → AreRaw (byte ∷ [])
 raw_byte byte raw = let both = and_parts (is_raw byte) (ltb byte 0x80) raw in
@@ -61,13 +59,10 @@ raw_first (b ∷ bs) some raw = raw_byte b raw
 pub raw_none : AreRaw []
 raw_none = record { characters = []; spelled = refl; raw = refl }
 
-encodes_append : (cs ds : List ℕ) → encodes (cs ++ ds) ≡ encodes cs ++ encodes ds
-encodes_append cs ds = flat_map-append encode cs ds
-
 raw_append : (front back : List ℕ) → AreRaw front → AreRaw back → AreRaw (front ++ back)
 raw_append front back f b = record {
   characters = f.characters ++ b.characters;
-  spelled = (λ i. f.spelled i ++ b.spelled i) ∙ sym (encodes_append f.characters b.characters);
+  spelled = (λ i. f.spelled i ++ b.spelled i) ∙ sym (encodes-append f.characters b.characters);
   raw = list_all-append is_raw f.characters b.characters ∙ (λ i. f.raw i && b.raw i);
 }
 

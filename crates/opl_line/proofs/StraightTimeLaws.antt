@@ -2,11 +2,12 @@
 use Rattle.std.proofs.Common.{◌≡◌, ℕ, ◌+◌, ◌-◌, ◌*◌, ◌/◌, ◌%◌, ◌^◌, ◌<◌, ◌≤◌, Bool, true, false, not, ◌&&◌, ◌==◌, ltb, cond, List, [], ◌∷◌}
 use Rattle.std.proofs.Common.{◌++◌, length, take, drop, get_or, slice_index, add-one, drop-cons, length-drop, arith, refl, sym, ap, ◌∙◌}
 use Rattle.std.proofs.Common.{Option, Some, None, Result, Ok, Err}
-use Rattle.std.proofs.lemmas.Bool.{and_parts, eqb-true, leb-true, ltb-true, lt-ltb}
+use Rattle.std.proofs.lemmas.Bool.{and_parts, eqb-true, ltb-true, lt-ltb}
 use Rattle.std.proofs.lemmas.List.{drop-drop, drop_all}
 use Rattle.std.specs.Char.{is_ascii_digit}
 use Rattle.std.specs.List.{list_all}
 use Rattle.std.specs.Option.{option_and_then, ok_or}
+use Rattle.std.proofs.lemmas.Option.{cond_some}
 use Rattle.osm_model.specs.New.{is_time}
 use Rattle.osm_model.specs.Calendar.{is_date, day_number}
 use Rattle.osm_model.specs.Time.{time_text}
@@ -19,6 +20,7 @@ use Rattle.opl_line.specs.Number.{is_numeral, decimal_value, value_of}
 use Rattle.opl_line.specs.Time.{digits_at, day_of, second_of, reading_date, reading_clock, epoch, reading_moment, reading_time}
 use Rattle.opl_line.proofs.ResultLaws.{both}
 use Rattle.opl_line.proofs.JiffDays.{epoch_day_number}
+use Rattle.opl_line.proofs.StraightPartLaws.{digit}
 
 -- consequences of a reading in two steps that succeeds
 record SomeBoth {X Y : Type 0} (next : X → Option Y) (first : Option X) (y : Y) : Type 0 where
@@ -38,18 +40,6 @@ is_so : {X : Type 0} (test : Bool) (o : Option X) (x : X) → cond test o None �
 is_so true o x e = refl
 is_so false o x e = cc
 
--- the value of a test that succeeds
-so_value : {X : Type 0} (test : Bool) (x y : X) → cond test (Some x) None ≡ Some y → x ≡ y
-so_value true x y e = cc
-so_value false x y e = cc
-
-record IsDigit (d : ℕ) : Type 0 where
-  low : 48 ≤ d
-  high : d ≤ 57
-
-digit : (d : ℕ) → is_ascii_digit d ≡ true → IsDigit d
-digit d is = let range = and_parts _ _ is in record { low = leb-true 48 d range.0; high = leb-true d 57 range.1 }
-
 -- a number below 100 in two digits
 record IsPair (n : ℕ) (now after : List ℕ) : Type 0 where
   small : n < 100
@@ -68,7 +58,7 @@ two (a ∷ b ∷ rest) n long e =
     let a_high = tens.high in
     let b_low = ones.low in
     let b_high = ones.high in
-    let value : 10 * (10 * 0 + (a - 48)) + (b - 48) ≡ n = so_value (is_numeral (a ∷ b ∷ [])) (decimal_value (a ∷ b ∷ [])) n e in
+    let value : 10 * (10 * 0 + (a - 48)) + (b - 48) ≡ n = (cond_some (is_numeral (a ∷ b ∷ [])) (decimal_value (a ∷ b ∷ [])) n e).1 in
     let first : a ≡ 48 + n / 10 = omega arith in
     let second : b ≡ 48 + n % 10 = omega arith in
     record { small = omega arith; spelled = λ i. first i ∷ second i ∷ rest }
@@ -102,7 +92,7 @@ four (a ∷ b ∷ c ∷ d ∷ rest) n long e =
     let d_low = ones.low in
     let d_high = ones.high in
     let value : 10 * (10 * (10 * (10 * 0 + (a - 48)) + (b - 48)) + (c - 48)) + (d - 48) ≡ n =
-    so_value (is_numeral digits) (decimal_value digits) n e in
+    (cond_some (is_numeral digits) (decimal_value digits) n e).1 in
     let first : a ≡ 48 + n / 100 / 10 = omega arith in
     let second : b ≡ 48 + n / 100 % 10 = omega arith in
     let third : c ≡ 48 + n % 100 / 10 = omega arith in
@@ -165,8 +155,8 @@ module _ (text : List ℕ) (long : length text ≡ 20) where
         four_digits = y.small;
         of_calendar = is_so (is_date year.between month.between day.between)
             (Some (day_number year.between month.between day.between)) days found;
-        number = sym (so_value (is_date year.between month.between day.between)
-            (day_number year.between month.between day.between) days found);
+        number = sym (cond_some (is_date year.between month.between day.between)
+            (day_number year.between month.between day.between) days found).1;
         spelled = y.spelled ∙ ap (λ t. pair (year.between / 100) ++ pair (year.between % 100) ++ t)
             (mark_at 4 45 (omega arith) marked.0 ∙ ap (λ t. 45 ∷ t)
             (m.spelled ∙ ap (λ t. pair month.between ++ t)
@@ -203,7 +193,7 @@ module _ (text : List ℕ) (long : length text ≡ 20) where
         hour_in = ltb-true hour.between 24 above.0;
         minute_in = ltb-true minute.between 60 above.1;
         second_in = ltb-true second.between 60 bounds.1;
-        sum = sym (so_value in_day value seconds found);
+        sum = sym (cond_some in_day value seconds found).1;
         spelled = mark_at 10 84 (omega arith) others.0 ∙ ap (λ t. 84 ∷ t)
             (h.spelled ∙ ap (λ t. pair hour.between ++ t)
             (mark_at 13 58 (omega arith) others.1 ∙ ap (λ t. 58 ∷ t)

@@ -1,7 +1,7 @@
 -- The pieces of a text in UTF-8 that is cut at ASCII characters, and the texts that they spell.
 use Rattle.std.proofs.Common.{◌≡◌, ℕ, zero, suc, ◌+◌, ◌<◌, Bool, true, false, not, cond, eqb, ◌&&◌, ◌||◌, List, [], ◌∷◌, ◌++◌, length}
 use Rattle.std.proofs.Common.{get_or, Option, Some, None, refl, sym, ap, ◌∙◌, subst, arith}
-use Rattle.std.proofs.lemmas.Bool.{and_parts}
+use Rattle.std.proofs.lemmas.Bool.{and_parts, not-true}
 use Rattle.std.proofs.lemmas.Bool.Decides.{nat_tests}
 use Rattle.std.proofs.lemmas.List.{length-append}
 use Rattle.std.proofs.lemmas.List.Folds.{list_any-append}
@@ -17,7 +17,6 @@ use Rattle.opl_line.specs.declared.bytes.cut.Delimiter.{Delimiter}
 use Rattle.opl_line.specs.Delimiter.{is_end, with_byte, split_first, split_all, pieces_of}
 use Rattle.opl_line.specs.Text.{is_literal, hex_value, is_hex, scalar_of}
 use Rattle.opl_line.specs.Content.{SpellsText, raw, escaped, SpellsCharacters}
-use Rattle.opl_line.proofs.BoolLaws.{not_true}
 use Rattle.opl_line.proofs.CutLaws.{cut_split, ends_ascii}
 
 -- the bytes before and after an ASCII character of a text in UTF-8 are UTF-8
@@ -123,7 +122,7 @@ named_scalar digits c =
       | true ↦ λ is e.
           let same : value ≡ c = cc in
           let parts = and_parts (scalar value) (not (eqb value 0)) (and_parts (is_hex digits) named is).1 in
-          (sym (ap scalar same) ∙ parts.0, sym (ap (λ v. eqb v 0) same) ∙ not_true (eqb value 0) parts.1)
+          (sym (ap scalar same) ∙ parts.0, sym (ap (λ v. eqb v 0) same) ∙ not-true (eqb value 0) parts.1)
       | false ↦ λ is e. cc
     ] refl
 

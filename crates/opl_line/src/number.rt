@@ -1,5 +1,5 @@
 //! Numbers in OPL lines.
-ghost use Rattle.std.specs.Prelude.{◌≡◌, ◌-◌, ◌<◌, ◌≤◌, ◌^◌, true, length, take, IfOk, option_copied};
+ghost use Rattle.std.specs.Prelude.{◌≡◌, ◌-◌, ◌<◌, ◌≤◌, ◌^◌, true, false, length, take, get_or, IfOk, option_copied};
 ghost use Rattle.std.specs.List.{list_all};
 ghost use Rattle.std.specs.Char.{is_ascii_digit};
 ghost use Rattle.opl_line.specs.Number as spec;
@@ -153,14 +153,15 @@ pub(crate) fn scale(decimals: usize) -> u64
     10u64.pow(7 - decimals as u32)
 }
 
-/// The number that the first digits of a text write, and the number of these digits, of which at most `most` are read.
-/// Both are 0 if the text begins with no digit.
+/// The number that the first digits of a text write, and the number of these digits: all digits that the text begins
+/// with, or the first `most` of them. Both are 0 if the text begins with no digit.
 #[inline(always)]
 pub fn leading_digits(text: &[u8], most: usize) -> (u64, usize)
     requires { most ≤ 19 }
     ensures within { result.1 ≤ length text.now }
     ensures few { result.1 ≤ most }
     ensures digits { list_all is_ascii_digit (take result.1 text.now) ≡ true }
+    ensures all { result.1 < most → result.1 < length text.now → is_ascii_digit (get_or text.now result.1 0) ≡ false }
     ensures value { result.0 ≡ spec.decimal_value (take result.1 text.now) }
     ensures bound { result.0 < 10 ^ most }
 {
@@ -178,6 +179,7 @@ fn digits_before(text: &[u8], end: usize) -> (u64, usize)
     requires within { end ≤ length text.now }
     ensures within { result.1 ≤ end }
     ensures digits { list_all is_ascii_digit (take result.1 text.now) ≡ true }
+    ensures all { result.1 < end → is_ascii_digit (get_or text.now result.1 0) ≡ false }
     ensures value { result.0 ≡ spec.decimal_value (take result.1 text.now) }
     ensures bound { result.0 < 10 ^ result.1 }
 {

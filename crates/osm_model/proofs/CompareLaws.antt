@@ -1,7 +1,7 @@
 -- The order of two lists, front by front.
 use Rattle.std.proofs.Common.{◌≡◌, ◌≢◌, ℕ, List, [], ◌∷◌, ◌++◌, ◌<◌, ◌≤◌, length, take, drop, refl, ap, sym, ◌∙◌, arith}
-use Rattle.std.proofs.Common.{append_assoc, length-take}
-use Rattle.std.proofs.lemmas.List.{take-append-drop}
+use Rattle.std.proofs.Common.{append_assoc}
+use Rattle.std.proofs.lemmas.List.{take-append-drop, length-take-le}
 use Rattle.std.specs.declared.cmp.Ordering.{Ordering}
 use Rattle.std.specs.declared.cmp.Ordering.TheVariants.{Less, Equal, Greater}
 use Rattle.std.specs.Cmp.Lexicographic.{slice_cmp}
@@ -29,10 +29,6 @@ fronts_first (x ∷ xs) (y ∷ ys) u v e =
     ap (ordering_then (nat_cmp x y)) (fronts_first xs ys u v (omega (arith, e)))
     ∙ sym (then_assoc (nat_cmp x y) (slice_cmp nat_cmp xs ys) (slice_cmp nat_cmp u v))
 
--- the length of a front
-long : (n : ℕ) (xs : List ℕ) → n ≤ length xs → length (take n xs) ≡ n
-long n xs h = omega (arith, length-take n xs, h)
-
 -- a list is its front of `n` elements, and then the rest
 split : (n : ℕ) (p u : List ℕ) → p ++ u ≡ take n p ++ (drop n p ++ u)
 split n p u = ap (λ t. t ++ u) (sym (take-append-drop n p)) ∙ append_assoc (take n p) (drop n p) u
@@ -43,7 +39,7 @@ by_fronts : (n : ℕ) (p q u v : List ℕ) → n ≤ length p → n ≤ length q
     ≡ ordering_then (slice_cmp nat_cmp (take n p) (take n q)) (slice_cmp nat_cmp (drop n p ++ u) (drop n q ++ v))
 by_fronts n p q u v hp hq =
     (λ i. slice_cmp nat_cmp (split n p u i) (split n q v i))
-    ∙ fronts_first (take n p) (take n q) (drop n p ++ u) (drop n q ++ v) (long n p hp ∙ sym (long n q hq))
+    ∙ fronts_first (take n p) (take n q) (drop n p ++ u) (drop n q ++ v) (length-take-le n p hp ∙ sym (length-take-le n q hq))
 
 -- fronts that differ decide
 pub fronts_differ : (n : ℕ) (p q u v : List ℕ) (r : Ordering) → n ≤ length p → n ≤ length q

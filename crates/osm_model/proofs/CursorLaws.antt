@@ -3,7 +3,7 @@ use Rattle.std.proofs.Common.{◌≡◌, ℕ, ◌<◌, Bool, true, false, List, 
 use Rattle.std.proofs.Common.{append_assoc, append-nil, if◌then◌else◌}
 use Rattle.std.specs.Char.{encode_utf8}
 use Rattle.std.specs.Str.{chars, IsUtf8}
-use Rattle.std.proofs.lemmas.Str.{chars-nil, chars_past_char, length-encode, len_utf8_bounds}
+use Rattle.std.proofs.lemmas.Str.{chars_past_char}
 use Rattle.osm_model.specs.declared.kind.Kind.TheVariants.{Node, Way, Relation}
 use Rattle.osm_model.specs.declared.tags.Tag.{Tag}
 use Rattle.osm_model.specs.declared.members.Member.{Member}
@@ -13,31 +13,19 @@ use Rattle.osm_model.specs.declared.line_bytes.Continuation.{Continuation}
 use Rattle.osm_model.specs.declared.line_bytes.LinePosition.{LinePosition}
 use Rattle.osm_model.specs.Kind.{kind_letter}
 use Rattle.osm_model.specs.Decimal.{integer_text}
-use Rattle.osm_model.specs.Escape.{escape, escape_char, is_raw, code_escape}
+use Rattle.osm_model.specs.Escape.{escape, escape_char}
 use Rattle.osm_model.specs.Joined.{join_with}
 use Rattle.osm_model.specs.Data.{VersionData, tags_of}
 use Rattle.osm_model.specs.Line.{list_text, tag_text, reference_text, member_text, kind_fields, line}
 use Rattle.osm_model.specs.Cursor.{more_text, items_text, bytes_from, from_next, from_head}
-
--- no character has an empty form
-pub escape_char-full : (c : ℕ) → 0 < length (escape_char c)
-unfolding escape_char code_escape
-escape_char-full c = elim (is_raw c) as (λ b. 0 < length (if b then encode_utf8 c else code_escape c)) [
-  | true ↦ omega (arith, length-encode c, (len_utf8_bounds c).0)
-  | false ↦ omega arith
-]
-
--- Without bytes there are no characters.
-pub text_end : (bs : List ℕ) → length bs ≡ 0 → chars bs ≡ []
-text_end [] h = chars-nil
-text_end (b ∷ bs) h = absurd (omega arith)
+use Rattle.osm_model.proofs.EscapeLaws.{length-escape_char-some}
 
 -- The escaped text is the form of the first character, which has a byte at least, and the escaped rest.
 pub text_more : (bs rest given piece : List ℕ) (c : ℕ) → IsUtf8 given → given ≡ bs → bs ≡ encode_utf8 c ++ rest → piece ≡ escape_char c →
     (escape (chars bs) ≡ piece ++ escape (chars rest)) × (0 < length piece)
 text_more bs rest given piece c u same e is =
     let v : IsUtf8 bs = subst IsUtf8 same u in
-    (ap escape (chars_past_char bs rest c v e) ∙ ap (λ xs. xs ++ escape (chars rest)) (sym is), rw is (escape_char-full c))
+    (ap escape (chars_past_char bs rest c v e) ∙ ap (λ xs. xs ++ escape (chars rest)) (sym is), rw is (length-escape_char-some c))
 
 -- the rest of a line, by the two parts of a `Continuation`
 pub coming_is : (v : VersionData) (next : Continuation) (cs : List ℕ) (p : LinePosition) → chars next.text.now ≡ cs → next.position ≡ p →

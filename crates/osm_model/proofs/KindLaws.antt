@@ -1,10 +1,9 @@
 -- The kinds of an ascending list never decrease.
-use Rattle.std.proofs.Common.{◌≡◌, ℕ, zero, suc, ◌<◌, ◌≤◌, false, List, [], ◌∷◌, length, get_or, arith}
+use Rattle.std.proofs.Common.{◌≡◌, ℕ, zero, suc, ◌<◌, ◌≤◌, List, [], ◌∷◌, length, get_or, arith}
 use Rattle.std.specs.declared.cmp.Ordering.TheVariants.{Less}
-use Rattle.std.specs.Ordering.{is_gt, nat_cmp}
 use Rattle.std.specs.List.{AllByRecursion}
 use Rattle.std.specs.List.Sorted.{IsStrictlySortedBy}
-use Rattle.std.proofs.lemmas.Bool.Decides.{nat_tests}
+use Rattle.std.proofs.lemmas.Map.Keys.{le_from_not_gt}
 use Rattle.osm_model.specs.Kind.{kind_order}
 use Rattle.osm_model.specs.Data.{VersionData, kind_of}
 use Rattle.osm_model.specs.Order.{version_cmp}
@@ -14,11 +13,8 @@ use Rattle.osm_model.proofs.ObjectLaws.{first_not_greater, object_rises}
 abbrev rank_of : VersionData → ℕ
 rank_of v = kind_order (kind_of v.body)
 
-at_most : (m n : ℕ) → is_gt (nat_cmp m n) ≡ false → m ≤ n
-at_most m n h = grind (arith, nat_tests)
-
 less_rank : (v w : VersionData) → version_cmp v w ≡ Less → rank_of v ≤ rank_of w
-less_rank v w h = at_most (rank_of v) (rank_of w)
+less_rank v w h = le_from_not_gt (rank_of v) (rank_of w)
     (first_not_greater _ _ (first_not_greater _ _ (object_rises v w h)))
 
 before_all : (v : VersionData) (versions : List VersionData) (j : ℕ) (d : VersionData) →

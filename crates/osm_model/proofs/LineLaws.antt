@@ -1,5 +1,6 @@
 -- The canonical line determines all the data of a version.
 use Rattle.std.proofs.Common.{◌≡◌, ◌≢◌, ℕ, ◌<◌, List, [], ◌∷◌, refl, ap, arith, codes, ℤ}
+use Rattle.std.proofs.Math.Nat.{ne_of_gt}
 use Rattle.osm_model.specs.declared.kind.Kind.{Kind}
 use Rattle.osm_model.specs.declared.kind.Kind.TheVariants.{Node, Way, Relation}
 use Rattle.osm_model.specs.declared.tags.Tag.{Tag}
@@ -20,10 +21,6 @@ use Rattle.osm_model.proofs.TimeLaws.{time_lacks, time_injective}
 use Rattle.osm_model.proofs.EscapeLaws.{escape_lacks, escape_injective}
 use Rattle.osm_model.proofs.JoinedLaws.{IsItemText, full_append, items_injective, items_lack, joined_injective}
 
--- A number that is less is another number.
-pub differs : (b c : ℕ) → c < b → b ≢ c
-differs b c h e = absurd (omega (arith, e))
-
 letter_injective : (k l : Kind) → kind_letter k ≡ kind_letter l → k ≡ l
 letter_injective Node Node e = refl
 letter_injective Node Way e = absurd (omega (arith, e))
@@ -37,10 +34,10 @@ letter_injective Relation Relation e = refl
 
 -- no letter of a field is a separator
 pub letter_apart : {c : ℕ} (b : ℕ) → IsSeparator c → 64 < b → b ≢ c
-letter_apart b space h = differs b 32 (omega arith)
-letter_apart b comma h = differs b 44 (omega arith)
-letter_apart b equals h = differs b 61 (omega arith)
-letter_apart b at h = differs b 64 h
+letter_apart b space h = ne_of_gt (omega arith)
+letter_apart b comma h = ne_of_gt (omega arith)
+letter_apart b equals h = ne_of_gt (omega arith)
+letter_apart b at h = ne_of_gt h
 
 pub kind_apart : {c : ℕ} (k : Kind) → IsSeparator c → kind_letter k ≢ c
 kind_apart Node s = letter_apart 110 s (omega arith)
@@ -60,16 +57,16 @@ tag_text_determines t u e =
 
 tag_text-IsItemText : IsItemText 44 tag_text
 tag_text-IsItemText = record {
-  lacks = tag_lacks comma (differs 61 44 (omega arith));
+  lacks = tag_lacks comma (ne_of_gt (omega arith));
   full = λ t. full_append (escape t.key) 61 (escape t.value);
   determines = tag_text_determines;
 }
 
 comma_no_space : ◌≢◌ {A = ℕ} 44 32
-comma_no_space = differs 44 32 (omega arith)
+comma_no_space = ne_of_gt (omega arith)
 
 pub tags_lack : (ts : List Tag) → Lacks 32 (list_text tag_text ts)
-tags_lack ts = items_lack 44 32 tag_text comma_no_space (tag_lacks space (differs 61 32 (omega arith))) ts
+tags_lack ts = items_lack 44 32 tag_text comma_no_space (tag_lacks space (ne_of_gt (omega arith))) ts
 
 -- ---- references
 pub reference_lacks : {c : ℕ} → IsSeparator c → (r : ℤ) → Lacks c (reference_text r)
@@ -108,13 +105,13 @@ member_text_determines m n e =
 
 member_text-IsItemText : IsItemText 44 member_text
 member_text-IsItemText = record {
-  lacks = member_lacks comma (differs 64 44 (omega arith));
+  lacks = member_lacks comma (ne_of_gt (omega arith));
   full = λ m. tt;
   determines = member_text_determines;
 }
 
 pub members_lack : (ms : List Member) → Lacks 32 (list_text member_text ms)
-members_lack ms = items_lack 44 32 member_text comma_no_space (member_lacks space (differs 64 32 (omega arith))) ms
+members_lack ms = items_lack 44 32 member_text comma_no_space (member_lacks space (ne_of_gt (omega arith))) ms
 
 -- ---- fields
 pub letter_lacks : (b : ℕ) (text : List ℕ) → 64 < b → Lacks 32 text → Lacks 32 (b ∷ text)

@@ -1,5 +1,5 @@
 -- The raw characters at the front of a text.
-use Rattle.std.proofs.Common.{◌≡◌, ◌⊎◌, ℕ, zero, suc, ◌-◌, Bool, T, eqb, eqb→eq, eq-zero-or-pos, inl, inr, ◌+◌, ◌/◌, ◌%◌, ◌<◌, ◌≤◌, true}
+use Rattle.std.proofs.Common.{◌≡◌, ◌⊎◌, ℕ, ◌+◌, ◌/◌, ◌%◌, ◌<◌, ◌≤◌, true}
 use Rattle.std.proofs.Common.{false, cond, ltb, leb, ◌&&◌, List, [], ◌∷◌, ◌++◌, length, get_or, take, drop, refl, sym, ap, ◌∙◌, subst}
 use Rattle.std.proofs.Common.{arith, append_assoc, if◌then◌else◌, ⊎_elim, add_assoc, ◌≢◌}
 use Rattle.std.proofs.lemmas.Bool.Decides.{nat_tests}
@@ -12,8 +12,6 @@ use Rattle.std.specs.Int.{is_in_range}
 use Rattle.std.specs.Str.{chars, IsUtf8}
 use Rattle.std.specs.List.{take_while}
 use lib.Utf8.{encode, encodes}
-use lib.Ieee.Fits.{and_l, and_r}
-use Rattle.osm_model.specs.declared.escape.TheConstants.{RAW_BYTES}
 use Rattle.osm_model.specs.Escape.{is_raw, escape, raw_width, raw_length, IsPlain}
 use Rattle.osm_model.proofs.EscapeLaws.{escape_char-raw}
 
@@ -36,7 +34,7 @@ lead_of_one c next len low = record {
 len_of_two : (c : ℕ) → 0x80 ≤ c → c < 0x800 → len_utf8 c ≡ 2
 len_of_two c low high = grind (arith, nat_tests)
 
-raw_of_two : (c : ℕ) → 0xC0 ≤ c → c < 0x600 → is_raw c ≡ true
+pub raw_of_two : (c : ℕ) → 0xC0 ≤ c → c < 0x600 → is_raw c ≡ true
 raw_of_two c low high = grind (arith, nat_tests)
 
 raw_not : (c : ℕ) → 0x600 ≤ c → is_raw c ≡ false
@@ -202,22 +200,3 @@ width-other width lead next len is no_byte no_lead no_latin = sym (⊎_elim
     (λ low. is.byte low ∙ (let no : is_raw lead ≡ false = grind (arith, nat_tests) in rw no refl))
     (λ high. is.other high (grind (arith, nat_tests)))
     (cases_lt lead 0x80))
-
-abbrev shows_raw_bytes : ℕ → Bool
-shows_raw_bytes zero = true
-shows_raw_bytes (suc byte) = eqb (get_or RAW_BYTES byte 0) (if is_raw byte && ltb byte 0x80 then 1 else 0) && shows_raw_bytes byte
-
-raw_bytes_below : (n byte : ℕ) → T (shows_raw_bytes n) → byte < n →
-    get_or RAW_BYTES byte 0 ≡ (if is_raw byte && ltb byte 0x80 then 1 else 0)
-raw_bytes_below zero byte t h = absurd (omega arith)
-raw_bytes_below (suc n) byte t h =
-    elim (eq-zero-or-pos (n - byte)) [
-      | inl z ↦ let e : byte ≡ n = omega arith in rw e (eqb→eq _ _ (and_l _ (shows_raw_bytes n) t))
-      | inr g ↦ raw_bytes_below n byte (and_r _ (shows_raw_bytes n) t) (omega arith)
-    ]
-
--- the table shows for each byte whether it is raw
-pub raw_byte_at : (byte : ℕ) → byte < 256 → eqb (get_or RAW_BYTES byte 0) 1 ≡ (is_raw byte && ltb byte 0x80)
-raw_byte_at byte small =
-    rw (raw_bytes_below 256 byte tt small) (elim (is_raw byte && ltb byte 0x80) as
-    (λ b. eqb (cond b 1 0) 1 ≡ b) [ true ↦ refl | false ↦ refl ])

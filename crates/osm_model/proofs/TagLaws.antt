@@ -9,11 +9,15 @@ use Rattle.std.specs.Ordering.{ordering_then, is_lt}
 use Rattle.std.specs.List.{list_any, list_all, IsAllAdjacentAnswer}
 use Rattle.std.specs.List.Sorted.{IsStrictlySortedBy}
 use Rattle.std.specs.FinMap.{IsAntisymmetric}
+use Rattle.std.proofs.Math.Bool.{and_assoc}
 use Rattle.osm_model.specs.declared.tags.Tag.{Tag}
 use Rattle.osm_model.specs.Tags.{tag_cmp, tag_cmp_total, normal_tags, texts_of_tags}
 use Rattle.osm_model.specs.Sets.{from_list}
 use Rattle.osm_model.proofs.SetLaws.{list_any-listed, to_list-from_list, strict-listed, strict_from_neighbours}
 use Rattle.osm_model.proofs.TextLaws.{text_cmp-IsAntisymmetric}
+use Rattle.osm_model.specs.declared.body.Body.{Body}
+use Rattle.osm_model.specs.declared.body.Body.TheVariants.{Deleted, Node, Way, Relation}
+use Rattle.osm_model.specs.Data.{tags_of, normal_body}
 
 pub first_equal : (a b : Ordering) → ordering_then a b ≡ Equal → a ≡ Equal
 first_equal Less b e = cc
@@ -32,15 +36,22 @@ tag_cmp-IsAntisymmetric x y e =
     let value = text_cmp-IsAntisymmetric _ _ (second_equal _ _ e) in
     λ i. record { key = key i; value = value i }
 
-and_grouped : (a b c : Bool) → (a && (b && c)) ≡ ((a && b) && c)
-and_grouped true b c = refl
-and_grouped false b c = refl
+-- Tags in order, each once, are normal.
+pub tags_again : (tags : List Tag) → IsStrictlySortedBy tag_cmp tags → normal_tags tags ≡ tags
+tags_again tags sorted = to_list-from_list tag_cmp_total tag_cmp-IsAntisymmetric tags sorted
+
+-- A body with such tags is normal.
+pub body_again : (body : Body) → IsStrictlySortedBy tag_cmp (tags_of body) → normal_body body ≡ body
+body_again (Deleted k) sorted = refl
+body_again (Node lon lat tags) sorted = ap (Node lon lat) (tags_again tags sorted)
+body_again (Way refs tags) sorted = ap (Way refs) (tags_again tags sorted)
+body_again (Relation members tags) sorted = ap (Relation members) (tags_again tags sorted)
 
 -- a test of all texts of tags, tag by tag
 pub list_all-texts_of_tags : (p : List ℕ → Bool) (ts : List Tag) → list_all p (texts_of_tags ts) ≡ list_all (λ t. p t.key && p t.value) ts
 list_all-texts_of_tags p [] = refl
 list_all-texts_of_tags p (t ∷ ts) = ap (λ b. p t.key && (p t.value && b)) (list_all-texts_of_tags p ts)
-    ∙ and_grouped (p t.key) (p t.value) _
+    ∙ sym (and_assoc (p t.key) (p t.value) _)
 
 not_both : (a b : Bool) → (a && not b) ≡ not (not a || b)
 not_both true b = refl

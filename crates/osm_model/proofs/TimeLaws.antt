@@ -1,6 +1,7 @@
 -- The text of a time determines the time, has no separator, and spells a date of the calendar.
 use Rattle.std.proofs.Common.{◌≡◌, ◌≢◌, ℕ, ◌+◌, ◌*◌, ◌/◌, ◌%◌, ◌^◌, ◌<◌, List, [], ◌∷◌, ◌++◌, Option, Some, None, refl, sym, ap, ◌∙◌, subst}
 use Rattle.std.proofs.Common.{arith, inl, inr}
+use Rattle.std.proofs.Math.Nat.{ne_of_lt}
 use Rattle.osm_model.specs.declared.calendar.Date.{Date}
 use Rattle.osm_model.specs.Numeral.{pad_zeros}
 use Rattle.osm_model.specs.Decimal.{number_text}
@@ -70,20 +71,17 @@ not_none : (xs ys : List ℕ) (c : ℕ) → xs ++ c ∷ ys ≡ [] → ⊥
 not_none [] ys c e = cc
 not_none (x ∷ xs) ys c e = cc
 
-different : (b c : ℕ) → b < c → b ≢ c
-different b c less e = omega (arith, e)
-
 some_injective : (s t : ℕ) → time_text (Some s) ≡ time_text (Some t) → s ≡ t
 unfolding time_text
 some_injective s t same =
     let d = date_of (s / 86_400) in
     let e = date_of (t / 86_400) in
     let dates = split_same 84 (date_text d) (date_text e) _ _
-    (date_text_lacks 84 d (inr (omega arith, omega arith)) (different 45 84 (omega arith)))
-    (date_text_lacks 84 e (inr (omega arith, omega arith)) (different 45 84 (omega arith))) same in
+    (date_text_lacks 84 d (inr (omega arith, omega arith)) (ne_of_lt (omega arith)))
+    (date_text_lacks 84 e (inr (omega arith, omega arith)) (ne_of_lt (omega arith))) same in
     let clocks = split_same 90 (clock_text (s % 86_400)) (clock_text (t % 86_400)) [] []
-    (clock_text_lacks 90 _ (inr (omega arith, omega arith)) (different 58 90 (omega arith)))
-    (clock_text_lacks 90 _ (inr (omega arith, omega arith)) (different 58 90 (omega arith))) dates.1 in
+    (clock_text_lacks 90 _ (inr (omega arith, omega arith)) (ne_of_lt (omega arith)))
+    (clock_text_lacks 90 _ (inr (omega arith, omega arith)) (ne_of_lt (omega arith))) dates.1 in
     let one = date_text_injective d e dates.0 in
     let number : day_number d.year d.month d.day ≡ day_number e.year e.month e.day =
     (λ i. day_number (one.same_year i) (one.same_month i) (one.same_day i)) in

@@ -15,11 +15,7 @@ use Rattle.osm_model.specs.Merged.{merge}
 use Rattle.osm_model.proofs.LineLaws.{line_injective}
 use Rattle.osm_model.proofs.SetLaws.{to_list-from_list}
 use Rattle.osm_model.proofs.MergedLaws.{from_list-merged}
-
-second_equal : (a b : Ordering) → ordering_then a b ≡ Equal → b ≡ Equal
-second_equal Less b e = cc
-second_equal Equal b e = e
-second_equal Greater b e = cc
+use Rattle.osm_model.proofs.TagLaws.{second_equal}
 
 -- Versions that tie are equal.
 pub version_cmp-IsAntisymmetric : IsAntisymmetric version_cmp
@@ -49,7 +45,7 @@ union-view vs ws h k =
     rw (to_list-view vs h, to_list-view ws k, ← from_list-merged version_cmp_total version_cmp-IsAntisymmetric vs ws)
 
 -- ---- keys
-less_first : (o p : Ordering) → o ≡ Less → ordering_then o p ≡ Less
+pub less_first : (o p : Ordering) → o ≡ Less → ordering_then o p ≡ Less
 less_first o p e = ap (λ r. ordering_then r p) e
 
 -- the version of the lesser key is less

@@ -7,10 +7,14 @@ ghost use Rattle.opl_line.specs.Item as spec;
 use super::text::read_text;
 use crate::OplReason;
 use crate::bytes::cut::Delimiter;
-use crate::item::{USUAL_ITEM, kind_of_letter};
+use crate::item::kind_of_letter;
 use crate::number::read_id;
 use osm_model::{Kind, Member, Tag};
 use std::alloc::Global;
+
+/// The number of bytes of a usual item and its comma, such as `n123456789,`. The capacity of a new list is the number
+/// of usual items that its content has space for. A content of commas has more items, but can't ask for much memory.
+const USUAL_ITEM: usize = 11;
 
 /// An item of a list: a tag, a reference or a member.
 pub(crate) trait Item: Drop + Sized {

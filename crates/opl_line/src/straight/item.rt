@@ -9,7 +9,7 @@ ghost use Rattle.osm_model.specs.Line.{list_text, tag_text, reference_text, memb
 
 use super::part::parse_id;
 use super::text::parse_text;
-use crate::item::{USUAL_ITEM, kind_of_letter};
+use crate::item::kind_of_letter;
 use osm_model::{Kind, Member, Spare, Tag};
 use std::alloc::Global;
 
@@ -124,19 +124,6 @@ pub(crate) fn parse_list<'a, T: StraightItem>(
     parse_items(alloc, spare, text)
 }
 
-/// An empty list for the items that a text begins with. It is made in memory that isn't needed any more, or has the
-/// capacity for usual items.
-#[inline(always)]
-fn list_for<T: StraightItem>(spare: &mut Spare, text: &[u8]) -> Option<Vec<T>>
-    ensures { IfSome result (λ items. items.items ≡ []) }
-{
-    let mut items = T::take_list(spare);
-    if items.capacity() == 0 && items.reserve(text.len() / USUAL_ITEM + 1).is_err() {
-        return None;
-    }
-    Some(items)
-}
-
 /// The items of a list that isn't empty.
 fn parse_items<'a, T: StraightItem>(
     alloc: Global,
@@ -146,7 +133,7 @@ fn parse_items<'a, T: StraightItem>(
     ensures text { IfSome result (λ read. text.now ≡ list_text T.form read.0.items ++ read.1.now) }
     ensures valid { IfSome result (λ read. list_all T.is_valid read.0.items ≡ true) }
 {
-    let mut items = list_for(spare, text)?;
+    let mut items = T::take_list(spare);
     let mut rest = text;
     'items: loop {
         let (item, after) = T::parse(alloc, rest)?;

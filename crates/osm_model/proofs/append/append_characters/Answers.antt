@@ -1,8 +1,9 @@
 use Rattle.std.proofs.Common.{◌≡◌, ◌++◌, drop, refl, sym, ap, ◌∙◌, append-nil, append_assoc, is_ok, rules}
 use Rattle.std.specs.Str.{chars}
 use Rattle.std.proofs.lemmas.Str.{IsUtf8-drop}
+use Rattle.std.proofs.StrCases.{chars_of_empty}
 use Rattle.osm_model.specs.Escape.{escape}
-use Rattle.osm_model.proofs.CursorLaws.{text_more, text_end}
+use Rattle.osm_model.proofs.CursorLaws.{text_more}
 use Rattle.osm_model.proofs.AppendLaws.{plain_stretch}
 use Rattle.osm_model.proofs.ExtendsLaws.{extends_trans, extends_or_same}
 use Rattle.osm_model.proofs.append.append_characters.Goals as goal
@@ -13,7 +14,7 @@ returns-in_default-clause-appended c =
     let plain = plain_stretch _ c.characters.out.items c.characters.rest.now _ _ now c.characters.invariant.1 c.raw_length.ensures.escape
     (search rules) in
     let back : drop c.raw_length.result c.characters.rest.now ≡ c.chars-characters.result.rest.now = search rules in
-    let none = text_end c.chars-characters.result.rest.now c.in_default.ensures.steps.0.0 in
+    let none = chars_of_empty c.chars-characters.result.rest.now c.in_default.ensures.steps.0.0 in
     sym (plain ∙ ap (λ bytes. now ++ escape (chars bytes)) back ∙ ap (λ cs. now ++ escape cs) none ∙ append-nil now)
 
 pub characters-preserved : goal.characters-preserved
