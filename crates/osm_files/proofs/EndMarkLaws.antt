@@ -2,10 +2,11 @@
 use Rattle.std.proofs.Common.{◌≡◌, ◌↔◌, ℕ, zero, suc, min, ◌+◌, ◌-◌, ◌≤◌, ◌==◌, nat_eq, ◌||◌, not, Bool, true, false, cond}
 use Rattle.std.proofs.Common.{List, [], ◌∷◌, ◌++◌, length, take, drop, slice_get, Option, Some, None}
 use Rattle.std.proofs.Common.{refl, sym, ap, ◌∙◌, subst, append_assoc, append-nil, length-append, arith}
-use Rattle.std.proofs.Math.Seq.{drop-nil, drop-append_seam}
-use Rattle.std.proofs.lemmas.List.{drop-append-le, take-append-le, take_all, drop_all, drop-drop, length-drop}
+use Rattle.std.proofs.Math.Seq.{drop-append_seam}
+use Rattle.std.proofs.lemmas.List.{drop-append-le, take-append-le, take_all, drop_all, drop-drop, length-drop, drop_min}
 use Rattle.std.specs.List.{ends_with}
 use Rattle.std.specs.Cmp.Lexicographic.{pointwise, unequal}
+use Rattle.std.proofs.Math.Bool.{or-false}
 use Rattle.osm_files.specs.declared.end_mark.EndRule.{EndRule}
 use Rattle.osm_files.specs.declared.end_mark.EndRule.TheVariants.{Any, Start, Marked}
 use Rattle.osm_files.specs.Input.{InputRest, whole_input, broken_input, with_front, Gave, GivesOne}
@@ -20,13 +21,6 @@ drop_joined (suc n) (x ∷ xs) ys =
     let less : suc n - length (x ∷ xs) ≡ n - length xs = omega arith in
     rw less (drop_joined n xs ys)
 
-drop_capped : (n : ℕ) (xs : List ℕ) → drop (min n (length xs)) xs ≡ drop n xs
-drop_capped n [] = drop-nil (min n 0) ∙ sym (drop-nil n)
-drop_capped zero (x ∷ xs) = let none : min 0 (length (x ∷ xs)) ≡ 0 = omega arith in rw none refl
-drop_capped (suc n) (x ∷ xs) =
-    let one_more : min (suc n) (length (x ∷ xs)) ≡ suc (min n (length xs)) = omega arith in
-    rw one_more (drop_capped n xs)
-
 -- the last bytes after more bytes: those of the last ones that remain, and the last of the new ones
 pub last_joined : (last bytes : List ℕ) (added : ℕ) → length last ≡ 7 → added ≡ min (length bytes) 7
     → last_seven (last ++ bytes) ≡ drop added last ++ drop (length bytes - added) bytes
@@ -36,7 +30,7 @@ last_joined last bytes added seven is =
     let left : length bytes - length last ≡ length bytes - added = omega (arith, seven, is) in
     ap (λ n. drop n (last ++ bytes)) count
     ∙ drop_joined (length bytes) last bytes
-    ∙ ap (λ xs. xs ++ drop (length bytes - length last) bytes) (sym (drop_capped (length bytes) last) ∙ ap (λ n. drop n last) capped)
+    ∙ ap (λ xs. xs ++ drop (length bytes - length last) bytes) (sym (drop_min (length bytes) last) ∙ ap (λ n. drop n last) capped)
     ∙ ap (λ n. drop added last ++ drop n bytes) left
 
 -- the front of a list and all after it were written
@@ -194,12 +188,8 @@ fails_there can input rule last seven end lacks =
     (whole_input [], end, ap (λ (t : Bool). record { bytes = []; broken = t }) (sym (lacks_at_end rule last seven ∙ lacks)))
 
 -- ---- any end
-stays_broken : (t : Bool) → t || false ≡ t
-stays_broken true = refl
-stays_broken false = refl
-
 given_alike : (last : List ℕ) (given : InputRest) → rest_with_mark Any last given ≡ given
-given_alike last given = ap (λ (t : Bool). record { bytes = given.bytes; broken = t }) (stays_broken given.broken)
+given_alike last given = ap (λ (t : Bool). record { bytes = given.bytes; broken = t }) (or-false given.broken)
 
 -- an input that may end after any byte gives what the other input gives
 pub any_gives : (can : InputRest → Type 0) (last : List ℕ) (c : InputRest)

@@ -1,20 +1,15 @@
 -- Reads of an extent of a file.
-use Rattle.std.proofs.Common.{◌≡◌, inl, inr, ℕ, zero, suc, min, ◌∷◌, ◌+◌, ◌-◌, ◌<◌, ◌≤◌, nat_lt, false, cond, List, [], ◌++◌, length}
+use Rattle.std.proofs.Common.{◌≡◌, inl, inr, ℕ, min, ◌+◌, ◌-◌, ◌<◌, ◌≤◌, nat_lt, false, cond, List, [], ◌++◌, length}
 use Rattle.std.proofs.Common.{take, drop, Option, Some, None, arith, refl, sym, ap, ◌∙◌, append_assoc, length-append}
-use Rattle.std.proofs.Math.Seq.{drop-append_seam, drop-nil}
-use Rattle.std.proofs.lemmas.List.{drop-drop, take-append-drop, take-append-le, length-drop, take_all, nil_from_length}
+use Rattle.std.proofs.lemmas.List.{take-append-drop, take-append-le, length-drop, take_all, nil_from_length, drop_min}
 use Rattle.std.proofs.lemmas.Bool.{false≢true}
 use Rattle.std.proofs.lemmas.Bool.Decides.{nat_tests}
+use Rattle.std.proofs.CharBoundary.{drop_past_prefix}
 use Rattle.osm_files.specs.Input.{InputRest, with_front, whole_input, Gave, GivesOne}
 use Rattle.osm_files.specs.ReadAt.{AreAt, AreLast}
 use Rattle.osm_files.specs.Extent.{ExtentCanGive, framed}
 
 -- ---- bytes at offsets
--- the bytes after some bytes of a file
-pub after_front : (all front rest : List ℕ) (next : ℕ) → drop next all ≡ front ++ rest → drop (next + length front) all ≡ rest
-after_front all front rest next is =
-    sym (drop-drop (length front) next all) ∙ ap (drop (length front)) is ∙ drop-append_seam front rest
-
 nothing_at : (known : Option (List ℕ)) (next : ℕ) → AreAt known next []
 nothing_at None next = tt
 nothing_at (Some all) next = (drop next all, refl)
@@ -25,23 +20,16 @@ pub joined_at : (known : Option (List ℕ)) (next : ℕ) (front more : List ℕ)
 joined_at None next front more at then_at = tt
 joined_at (Some all) next front more at then_at = (
   then_at.0,
-  at.1 ∙ ap (λ xs. front ++ xs) (sym (after_front all front at.0 next at.1) ∙ then_at.1) ∙ sym (append_assoc front more then_at.0),
+  at.1 ∙ ap (λ xs. front ++ xs) (sym (drop_past_prefix all front at.0 next at.1) ∙ then_at.1) ∙ sym (append_assoc front more then_at.0),
 )
 
 joined_last : (known : Option (List ℕ)) (next : ℕ) (front more : List ℕ) → AreAt known next front
     → AreLast known (next + length front) more → AreLast known next (front ++ more)
 joined_last None next front more at last = tt
 joined_last (Some all) next front more at last =
-    at.1 ∙ ap (λ xs. front ++ xs) (sym (after_front all front at.0 next at.1) ∙ last)
+    at.1 ∙ ap (λ xs. front ++ xs) (sym (drop_past_prefix all front at.0 next at.1) ∙ last)
 
 -- ---- slices
-drop_capped : (offset : ℕ) (all : List ℕ) → drop (min offset (length all)) all ≡ drop offset all
-drop_capped offset [] = drop-nil (min offset 0) ∙ sym (drop-nil offset)
-drop_capped zero (x ∷ all) = let e : min 0 (length (x ∷ all)) ≡ 0 = omega arith in rw e refl
-drop_capped (suc offset) (x ∷ all) =
-    let e : min (suc offset) (length (x ∷ all)) ≡ suc (min offset (length all)) = omega arith in
-    rw e (drop_capped offset all)
-
 -- the bytes of a slice at an offset
 pub slice_at : (all came after : List ℕ) (offset start count : ℕ) → start ≡ min offset (length all)
     → came ≡ take count (take (length all - start) (drop start all)) → length came ≡ count
@@ -49,7 +37,7 @@ pub slice_at : (all came after : List ℕ) (offset start count : ℕ) → start 
 slice_at all came after offset start count is copied size =
     let whole : take (length all - start) (drop start all) ≡ drop start all =
     take_all (length all - start) (drop start all) (omega (arith, length-drop start all)) in
-    let capped : drop offset all ≡ drop start all = sym (drop_capped offset all) ∙ ap (λ n. drop n all) (sym is) in
+    let capped : drop offset all ≡ drop start all = sym (drop_min offset all) ∙ ap (λ n. drop n all) (sym is) in
     let front : take count (came ++ after) ≡ take count (drop start all) =
     take-append-le count came after (omega (arith, size)) ∙ take_all count came (omega (arith, size)) ∙ copied ∙ ap (take count) whole in (
       drop count (drop start all),

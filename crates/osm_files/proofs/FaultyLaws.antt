@@ -1,6 +1,6 @@
 -- Bytes after a whole faulty unit change no verdict.
 use Rattle.std.proofs.Common.{◌≡◌, ◌⊎◌, inl, inr, ℕ, zero, suc, ◌+◌, ◌-◌, ◌≤◌, ◌<◌, ◌^◌, true, false, cond, List, [], ◌∷◌, ◌++◌, length}
-use Rattle.std.proofs.Common.{drop, take, refl, sym, ap, ◌∙◌, arith, Option, Some, None, Ok, Err, length-drop, nat_lt, option_map}
+use Rattle.std.proofs.Common.{drop, take, refl, sym, ap, ◌∙◌, arith, Option, Some, None, Ok, Err, length-drop, nat_lt}
 use Rattle.std.proofs.lemmas.List.{append-nil, drop-append-le}
 use Rattle.std.proofs.Math.Seq.{take-append-add}
 use Rattle.std.proofs.lemmas.Bool.{cases_lt}
@@ -8,7 +8,6 @@ use Rattle.osm_model.specs.Data.{VersionData}
 use Rattle.osm_files.specs.declared.reason.Reason.TheVariants.{Unsorted, ReadFault}
 use Rattle.osm_files.specs.Groups.{sorted_source}
 use Rattle.osm_files.specs.LoadLaws.{broken_after}
-use Rattle.osm_files.specs.Position.{fault_of}
 use Rattle.osm_files.specs.SourceLaws.{verdict_within, IsFaultyWithin, FaultyOrClosed, FaultyStays, MalformedStays}
 use Rattle.osm_files.specs.Stream.{Verdict, verdict_at, Placed, new_placed, SourceRest, end_refused, front}
 use Rattle.osm_files.specs.Units.{FileStateData, InOpl, UnitResult, FileUnit, unit_at, found_then, units, start_of}
@@ -16,7 +15,7 @@ use Rattle.osm_files.specs.Verdict.{length_limit, too_long_verdict, file_units, 
 use Rattle.osm_files.proofs.HoldLaws.{whole_source_is_held, broken_source_ends, long_source_ends}
 use Rattle.osm_files.proofs.StepLaws.{unit_sized, units_step, units_stop}
 use Rattle.osm_files.proofs.StayLaws.{unit_stays}
-use Rattle.osm_files.proofs.HoldLaws.{no_fault as none_of}
+use Rattle.osm_files.proofs.LoadLaws.{unnamed}
 
 abbrev pub Units : Type 0
 Units = SourceRest Placed Verdict
@@ -26,105 +25,105 @@ abbrev pub after : List Placed → Units → Units
 after us still = record { list = us ++ still.list; refusal = still.refusal }
 
 -- none of the whole units in these bytes is faulty
-pub record Closes (stage : FileStateData) (place : ℕ) (bytes : List ℕ) : Type 0 where
+pub record Closes (stage : FileStateData) (offset : ℕ) (bytes : List ℕ) : Type 0 where
   pub list : List Placed
-  pub closes : (close : Verdict) → units (Some close) stage place bytes ≡ record { list = list; refusal = Some close }
-  pub longer : (more : List ℕ) (close : Option Verdict) → (still : Units) × (units close stage place (bytes ++ more) ≡ after list still)
+  pub closes : (close : Verdict) → units (Some close) stage offset bytes ≡ record { list = list; refusal = Some close }
+  pub longer : (more : List ℕ) (close : Option Verdict) → (still : Units) × (units close stage offset (bytes ++ more) ≡ after list still)
 
 -- one of the whole units in these bytes is faulty
-pub record RefusesUnit (stage : FileStateData) (place : ℕ) (bytes : List ℕ) : Type 0 where
+pub record RefusesUnit (stage : FileStateData) (offset : ℕ) (bytes : List ℕ) : Type 0 where
   pub list : List Placed
   pub fault : Verdict
-  pub faulty : (close : Verdict) → units (Some close) stage place bytes ≡ record { list = list; refusal = Some fault }
+  pub faulty : (close : Verdict) → units (Some close) stage offset bytes ≡ record { list = list; refusal = Some fault }
   pub stays : (more : List ℕ) (close : Option Verdict)
-      → units close stage place (bytes ++ more) ≡ record { list = list; refusal = Some fault }
+      → units close stage offset (bytes ++ more) ≡ record { list = list; refusal = Some fault }
 
 abbrev pub Splits : FileStateData → ℕ → List ℕ → Type 0
-Splits stage place bytes = Closes stage place bytes ⊎ RefusesUnit stage place bytes
+Splits stage offset bytes = Closes stage offset bytes ⊎ RefusesUnit stage offset bytes
 
-none_whole : (stage : FileStateData) (place : ℕ) (bytes : List ℕ) → unit_at stage bytes ≡ None → Splits stage place bytes
-none_whole stage place bytes none = inl (record {
+none_whole : (stage : FileStateData) (offset : ℕ) (bytes : List ℕ) → unit_at stage bytes ≡ None → Splits stage offset bytes
+none_whole stage offset bytes none = inl (record {
   list = [];
-  closes = λ close. units_stop (Some close) stage place bytes none;
-  longer = λ more close. (units close stage place (bytes ++ more), refl);
+  closes = λ close. units_stop (Some close) stage offset bytes none;
+  longer = λ more close. (units close stage offset (bytes ++ more), refl);
 })
 
 -- the unit at the front is found to be faulty, or passed, or a version
-module _ (stage : FileStateData) (place : ℕ) (bytes : List ℕ) (u : FileUnit) (there : unit_at stage bytes ≡ Some u) where
+module _ (stage : FileStateData) (offset : ℕ) (bytes : List ℕ) (u : FileUnit) (there : unit_at stage bytes ≡ Some u) where
   abbrev rest : List ℕ
   rest = drop u.size bytes
 
-  here : (close : Option Verdict) → units close stage place bytes
-      ≡ found_then place u.found (λ next. units close next (place + u.size) rest)
-  here close = units_step close stage place bytes u there
+  here : (close : Option Verdict) → units close stage offset bytes
+      ≡ found_then offset u.found (λ next. units close next (offset + u.size) rest)
+  here close = units_step close stage offset bytes u there
 
   further : (more : List ℕ) (close : Option Verdict) →
-      units close stage place (bytes ++ more) ≡ found_then place u.found (λ next. units close next (place + u.size) (rest ++ more))
+      units close stage offset (bytes ++ more) ≡ found_then offset u.found (λ next. units close next (offset + u.size) (rest ++ more))
   further more close =
       let sized = unit_sized stage bytes u there in
-      units_step close stage place (bytes ++ more) u (unit_stays stage bytes more u there)
-      ∙ ap (λ bs. found_then place u.found (λ next. units close next (place + u.size) bs)) (drop-append-le u.size bytes more sized.within)
+      units_step close stage offset (bytes ++ more) u (unit_stays stage bytes more u there)
+      ∙ ap (λ bs. found_then offset u.found (λ next. units close next (offset + u.size) bs)) (drop-append-le u.size bytes more sized.within)
 
-  by_found : (found : UnitResult) → u.found ≡ found → ((next : FileStateData) → Splits next (place + u.size) rest) →
-      Splits stage place bytes
+  by_found : (found : UnitResult) → u.found ≡ found → ((next : FileStateData) → Splits next (offset + u.size) rest) →
+      Splits stage offset bytes
   by_found (Err reason) e on = inr (record {
     list = [];
-    fault = verdict_at place reason;
-    faulty = λ close. here (Some close) ∙ ap (λ f. found_then place f (λ next. units (Some close) next (place + u.size) rest)) e;
-    stays = λ more close. further more close ∙ ap (λ f. found_then place f (λ next. units close next (place + u.size) (rest ++ more))) e;
+    fault = verdict_at offset reason;
+    faulty = λ close. here (Some close) ∙ ap (λ f. found_then offset f (λ next. units (Some close) next (offset + u.size) rest)) e;
+    stays = λ more close. further more close ∙ ap (λ f. found_then offset f (λ next. units close next (offset + u.size) (rest ++ more))) e;
   })
   by_found (Ok (None, next)) e on = elim (on next) [
     | inl h ↦ inl (record {
       list = h.list;
-      closes = λ close. here (Some close) ∙ ap (λ f. found_then place f (λ n. units (Some close) n (place + u.size) rest)) e
+      closes = λ close. here (Some close) ∙ ap (λ f. found_then offset f (λ n. units (Some close) n (offset + u.size) rest)) e
           ∙ h.closes close;
       longer = λ more close. (let k = h.longer more close in
-          (k.0, further more close ∙ ap (λ f. found_then place f (λ n. units close n (place + u.size) (rest ++ more))) e ∙ k.1));
+          (k.0, further more close ∙ ap (λ f. found_then offset f (λ n. units close n (offset + u.size) (rest ++ more))) e ∙ k.1));
     })
     | inr h ↦ inr (record {
       list = h.list;
       fault = h.fault;
-      faulty = λ close. here (Some close) ∙ ap (λ f. found_then place f (λ n. units (Some close) n (place + u.size) rest)) e
+      faulty = λ close. here (Some close) ∙ ap (λ f. found_then offset f (λ n. units (Some close) n (offset + u.size) rest)) e
           ∙ h.faulty close;
-      stays = λ more close. further more close ∙ ap (λ f. found_then place f (λ n. units close n (place + u.size) (rest ++ more))) e
+      stays = λ more close. further more close ∙ ap (λ f. found_then offset f (λ n. units close n (offset + u.size) (rest ++ more))) e
           ∙ h.stays more close;
     })
   ]
   by_found (Ok (Some v, next)) e on = elim (on next) [
     | inl h ↦ inl (record {
-      list = new_placed place v ∷ h.list;
-      closes = λ close. here (Some close) ∙ ap (λ f. found_then place f (λ n. units (Some close) n (place + u.size) rest)) e
-          ∙ ap (front (new_placed place v)) (h.closes close);
+      list = new_placed offset v ∷ h.list;
+      closes = λ close. here (Some close) ∙ ap (λ f. found_then offset f (λ n. units (Some close) n (offset + u.size) rest)) e
+          ∙ ap (front (new_placed offset v)) (h.closes close);
       longer = λ more close. (let k = h.longer more close in (
         k.0,
-        further more close ∙ ap (λ f. found_then place f (λ n. units close n (place + u.size) (rest ++ more))) e
-            ∙ ap (front (new_placed place v)) k.1,
+        further more close ∙ ap (λ f. found_then offset f (λ n. units close n (offset + u.size) (rest ++ more))) e
+            ∙ ap (front (new_placed offset v)) k.1,
       ));
     })
     | inr h ↦ inr (record {
-      list = new_placed place v ∷ h.list;
+      list = new_placed offset v ∷ h.list;
       fault = h.fault;
-      faulty = λ close. here (Some close) ∙ ap (λ f. found_then place f (λ n. units (Some close) n (place + u.size) rest)) e
-          ∙ ap (front (new_placed place v)) (h.faulty close);
-      stays = λ more close. further more close ∙ ap (λ f. found_then place f (λ n. units close n (place + u.size) (rest ++ more))) e
-          ∙ ap (front (new_placed place v)) (h.stays more close);
+      faulty = λ close. here (Some close) ∙ ap (λ f. found_then offset f (λ n. units (Some close) n (offset + u.size) rest)) e
+          ∙ ap (front (new_placed offset v)) (h.faulty close);
+      stays = λ more close. further more close ∙ ap (λ f. found_then offset f (λ n. units close n (offset + u.size) (rest ++ more))) e
+          ∙ ap (front (new_placed offset v)) (h.stays more close);
     })
   ]
 
-by_unit : (stage : FileStateData) (place : ℕ) (bytes : List ℕ) (found : Option FileUnit) → unit_at stage bytes ≡ found →
-    ((u : FileUnit) → unit_at stage bytes ≡ Some u → (next : FileStateData) → Splits next (place + u.size) (drop u.size bytes)) →
-    Splits stage place bytes
-by_unit stage place bytes None e on = none_whole stage place bytes e
-by_unit stage place bytes (Some u) e on = by_found stage place bytes u e u.found refl (on u e)
+by_unit : (stage : FileStateData) (offset : ℕ) (bytes : List ℕ) (found : Option FileUnit) → unit_at stage bytes ≡ found →
+    ((u : FileUnit) → unit_at stage bytes ≡ Some u → (next : FileStateData) → Splits next (offset + u.size) (drop u.size bytes)) →
+    Splits stage offset bytes
+by_unit stage offset bytes None e on = none_whole stage offset bytes e
+by_unit stage offset bytes (Some u) e on = by_found stage offset bytes u e u.found refl (on u e)
 
 -- The whole units in some bytes are the same, whatever follows the bytes.
-pub splits : (n : ℕ) (stage : FileStateData) (place : ℕ) (bytes : List ℕ) → length bytes ≤ n → Splits stage place bytes
-splits zero stage place bytes few = by_unit stage place bytes (unit_at stage bytes) refl
+pub splits : (n : ℕ) (stage : FileStateData) (offset : ℕ) (bytes : List ℕ) → length bytes ≤ n → Splits stage offset bytes
+splits zero stage offset bytes few = by_unit stage offset bytes (unit_at stage bytes) refl
     (λ u e. let sized = unit_sized stage bytes u e in absurd (omega (arith, sized.some, sized.within, few)))
-splits (suc n) stage place bytes few =
-    by_unit stage place bytes (unit_at stage bytes) refl
+splits (suc n) stage offset bytes few =
+    by_unit stage offset bytes (unit_at stage bytes) refl
     (λ u e next. let sized = unit_sized stage bytes u e in
-    splits n next (place + u.size) (drop u.size bytes) (omega (arith, length-drop u.size bytes, sized.some, sized.within, few)))
+    splits n next (offset + u.size) (drop u.size bytes) (omega (arith, length-drop u.size bytes, sized.some, sized.within, few)))
 
 -- ---- on their order
 -- the key of one of these versions is below that of the version before it, or the key of none is
@@ -138,16 +137,16 @@ orders before [] = inr (λ close. refl)
 orders before (u ∷ us) =
     elim (is_below u.version before) as (λ t. is_below u.version before ≡ t → Orders before (u ∷ us)) [
       | true ↦ λ e. inl (
-        verdict_at u.place Unsorted,
-        λ close others. ap (λ t. cond t (Some (verdict_at u.place Unsorted)) (sorted_verdict close (Some u.version) (us ++ others))) e,
+        verdict_at u.offset Unsorted,
+        λ close others. ap (λ t. cond t (Some (verdict_at u.offset Unsorted)) (sorted_verdict close (Some u.version) (us ++ others))) e,
       )
       | false ↦ λ e. elim (orders (Some u.version) us) [
         | inl h ↦ inl (
           h.0,
-          λ close others. ap (λ t. cond t (Some (verdict_at u.place Unsorted))
+          λ close others. ap (λ t. cond t (Some (verdict_at u.offset Unsorted))
               (sorted_verdict close (Some u.version) (us ++ others))) e ∙ h.1 close others,
         )
-        | inr h ↦ inr (λ close. ap (λ t. cond t (Some (verdict_at u.place Unsorted)) (sorted_verdict close (Some u.version) us)) e
+        | inr h ↦ inr (λ close. ap (λ t. cond t (Some (verdict_at u.offset Unsorted)) (sorted_verdict close (Some u.version) us)) e
             ∙ h close)
       ]
     ] refl
@@ -162,14 +161,11 @@ Says bytes =
     ((more : List ℕ) (close : Option Verdict) → of_units (units close (start_of bytes) 0 (bytes ++ more)) ≡ Some fault))
     ⊎ ((close : Verdict) → verdict_within close bytes ≡ Some close)
 
-no_others : (us : List Placed) → us ++ [] ≡ us
-no_others us = append-nil us
-
 says_closed : (bytes : List ℕ) (h : Closes (start_of bytes) 0 bytes) → Orders None h.list → Says bytes
 unfolding of_units
 says_closed bytes h (inl k) = inl (
   k.0,
-  λ close. ap of_units (h.closes close) ∙ ap (λ us. sorted_verdict (Some close) None us) (sym (no_others h.list)) ∙ k.1 (Some close) [],
+  λ close. ap of_units (h.closes close) ∙ ap (λ us. sorted_verdict (Some close) None us) (sym (append-nil h.list)) ∙ k.1 (Some close) [],
   λ more close. (let l = h.longer more close in ap of_units l.1 ∙ k.1 l.0.refusal l.0.list),
 )
 says_closed bytes h (inr k) = inr (λ close. ap of_units (h.closes close) ∙ k (Some close))
@@ -178,7 +174,7 @@ says_refused : (bytes : List ℕ) (h : RefusesUnit (start_of bytes) 0 bytes) →
 unfolding of_units
 says_refused bytes h (inl k) =
     let same : sorted_verdict (Some h.fault) None h.list ≡ Some k.0 =
-    ap (λ us. sorted_verdict (Some h.fault) None us) (sym (no_others h.list)) ∙ k.1 (Some h.fault) [] in
+    ap (λ us. sorted_verdict (Some h.fault) None us) (sym (append-nil h.list)) ∙ k.1 (Some h.fault) [] in
     inl (k.0, λ close. ap of_units (h.faulty close) ∙ same, λ more close. ap of_units (h.stays more close) ∙ same)
 says_refused bytes h (inr k) = inl (
   h.fault,
@@ -211,7 +207,7 @@ pub broken_is_refused : (input : ℕ) (bytes : List ℕ) → (sorted_source inpu
 broken_is_refused input bytes e =
     elim (cases_lt (length bytes) (2 ^ 62)) [
       | inl short ↦ never_none bytes (verdict_at (length bytes) ReadFault)
-          (none_of input (verdict_within (verdict_at (length bytes) ReadFault) bytes) (sym (broken_source_ends input bytes short) ∙ e))
+          (unnamed input (verdict_within (verdict_at (length bytes) ReadFault) bytes) (sym (broken_source_ends input bytes short) ∙ e))
       | inr long ↦
           let held = whole_source_is_held input bytes (ap (λ s. s.refusal) (sym (long_source_ends input bytes long)) ∙ e) in
           absurd (let short = held.short in omega (arith, short, long))
@@ -249,9 +245,9 @@ file_begins bytes more short =
 -- two different closings don't both have the verdict that closes them
 not_both : (fault : Verdict) → Some fault ≡ Some (verdict_at 0 ReadFault) → Some fault ≡ Some (verdict_at 1 ReadFault) → ⊥
 not_both fault e f =
-    let place : verdict_at 0 ReadFault ≡ verdict_at 1 ReadFault =
+    let same : verdict_at 0 ReadFault ≡ verdict_at 1 ReadFault =
     (let g : Some (verdict_at 0 ReadFault) ≡ Some (verdict_at 1 ReadFault) = sym e ∙ f in cc) in
-    let none : 0 ≡ 1 = ap (λ v. v.place) place in
+    let none : 0 ≡ 1 = ap (λ v. v.place) same in
     omega (arith, none)
 
 nothing_in_nothing : unit_at InOpl [] ≡ None

@@ -4,7 +4,7 @@ use Rattle.std.proofs.Common.{◌++◌}
 use Rattle.std.proofs.Common.{Option, Some, None, IfSome, is_some, Result, Ok, Err, length, take, drop, refl, sym, ap, ◌∙◌, subst, arith}
 use Rattle.std.proofs.Common.{append-nil, min, slice_get, suc, zero, ◌||◌, length-append, length-drop, length-take}
 use Rattle.std.proofs.Math.Seq.{take-append_seam}
-use Rattle.std.proofs.lemmas.Bool.{false≢true, and_parts, ltb-true, not-true}
+use Rattle.std.proofs.lemmas.Bool.{false≢true, and_parts, ltb-true, not-true, or_parts}
 use Rattle.std.proofs.lemmas.List.Elements.{All-nil, All-cons, All-append}
 use Rattle.std.proofs.lemmas.Option.{slice_get_within}
 use Rattle.std.specs.List.{All}
@@ -43,7 +43,7 @@ use Rattle.osm_files.proofs.KeyOrderLaws.{rising_file}
 use Rattle.osm_files.proofs.KeyedFileLaws.{keyed_formed, keyed_sorted}
 use Rattle.osm_files.proofs.RestLaws.{FormedFile, accepted_formed, lines_front, lines_rest, sets_before, sets_after}
 use Rattle.osm_files.proofs.RunSetsLaws.{within_file}
-use Rattle.osm_files.proofs.SplitLaws.{slice_get-drop, neither, splits_by, whole_file}
+use Rattle.osm_files.proofs.SplitLaws.{slice_get-drop, splits_by, whole_file}
 use Rattle.osm_files.proofs.UnsortedLaws.{front_sorted}
 
 abbrev refusal_of : Option (SourceRest VersionData Fault) → Option Fault
@@ -125,7 +125,7 @@ module _ (file : List ℕ) (run : SortedRun) (offset : ℕ) (bytes : BytesAtSpli
       let within = is_in_file file run offset bytes has can in
       let split = splits_by run offset bytes file has can false is in
       let f = front_sorted (run_bytes run file) place (split_starts _ _ _ split) unsorted in
-      let none : bytes_before run ≡ [] = ap (λ t. cond t o5m_header []) (neither run.lacks_header (is_reset bytes.first) is).0 in
+      let none : bytes_before run ≡ [] = ap (λ t. cond t o5m_header []) (or_parts run.lacks_header (is_reset bytes.first) is).0 in
       let part : List ℕ = take (offset - run.start - 0) (drop run.start file) in
       let long : length (bytes_before run ++ (part ++ [])) ≡ place =
       omega (
@@ -408,8 +408,8 @@ record AreLines (run : SortedRun) (first : Option ℕ) : Type 0 where
 are_lines : (run : SortedRun) (first : Option ℕ) → is_lines run first ≡ true → AreLines run first
 are_lines run first e =
     let framed : Bool = run.lacks_end || is_reset first in
-    let one = neither run.lacks_header framed (not-true (run.lacks_header || framed) e) in
-    let two = neither run.lacks_end (is_reset first) one.1 in
+    let one = or_parts run.lacks_header framed (not-true (run.lacks_header || framed) e) in
+    let two = or_parts run.lacks_end (is_reset first) one.1 in
     record { header = one.0; end = two.0; start = two.1 }
 
 -- the bytes of a run without a header and an end of its own

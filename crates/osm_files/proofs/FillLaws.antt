@@ -7,11 +7,6 @@ use Rattle.osm_files.specs.Input.{InputRest, with_front}
 use Rattle.osm_files.specs.Verdict.{too_long_verdict, length_limit}
 use Rattle.osm_files.specs.Position.{KnownPosition, rest_of_bytes, fault_of, Keeps, Halts, StopsFilling}
 
--- A property of an option's value implies a weaker one.
-pub weaker : {A : Type 0} (o : Option A) (P Q : A → Type 0) → ((x : A) → P x → Q x) → IfSome o P → IfSome o Q
-weaker None P Q f h = tt
-weaker (Some x) P Q f h = f x h
-
 -- A property of the image of an option's value is one of the value of the mapped option.
 pub mapped : {A B : Type 0} (o : Option A) (f : A → B) (P : B → Type 0) → IfSome o (λ x. P (f x)) → IfSome (option_map f o) P
 mapped None f P h = tt
@@ -42,14 +37,14 @@ more_there held [] t some = absurd (omega (arith, some))
 more_there held (b ∷ front) t some = (b, front ++ t.bytes, refl)
 
 from_mapped : (p : KnownPosition) (fault : Fault) (front : List ℕ) (rest : Option InputRest) → 0 < length front →
-    p.place + length p.held + 1 ≡ 2 ^ 62 → fault ≡ too_long_fault p.input
+    p.offset + length p.held + 1 ≡ 2 ^ 62 → fault ≡ too_long_fault p.input
     → IfSome (option_map (with_front p.held) (option_map (with_front front) rest)) (λ c. Halts p c fault)
 from_mapped p fault front None some full is = tt
 from_mapped p fault front (Some t) some full is = inr (full, more_there p.held front t some, is ∙ too_long_is p.input)
 
 -- A file with one byte more than the limit allows is TooLong.
 pub fill_full : (p : KnownPosition) (rest : Option InputRest) (front : List ℕ) (fault : Fault) → p.ended ≡ false →
-    p.rest ≡ option_map (with_front front) rest → 0 < length front → p.place + length p.held + 1 ≡ 2 ^ 62 →
+    p.rest ≡ option_map (with_front front) rest → 0 < length front → p.offset + length p.held + 1 ≡ 2 ^ 62 →
     fault ≡ too_long_fault p.input → StopsFilling p fault
 fill_full p rest front fault unended gave some full is =
     inr (subst (λ (o : Option InputRest). IfSome o (λ c. Halts p c fault))

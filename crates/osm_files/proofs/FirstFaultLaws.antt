@@ -1,9 +1,8 @@
 -- The first faulty unit of an input, in terms of the grammars.
-use Rattle.std.proofs.Common.{◌≡◌, ◌⊎◌, inl, inr, ℕ, zero, suc, ◌+◌, ◌-◌, ◌≤◌, ◌<◌, ◌==◌, nat_lt, nat_le, Bool, true, false, cond, List, []}
+use Rattle.std.proofs.Common.{◌≡◌, ◌⊎◌, inl, inr, ℕ, zero, suc, ◌+◌, ◌-◌, ◌≤◌, ◌==◌, nat_lt, nat_le, Bool, true, false, cond, List, []}
 use Rattle.std.proofs.Common.{◌∷◌, ◌++◌, length, take, drop, take-append-drop, refl, sym, ap, ◌∙◌, subst, arith, Option, Some, None, Result}
 use Rattle.std.proofs.Common.{Ok}
 use Rattle.std.proofs.Common.{Err, option_map, length-drop, length-take, slice_get}
-use Rattle.std.specs.Prelude.{option_to_list}
 use Rattle.std.proofs.lemmas.Bool.{false≢true, eqb-true, leb-true, leb-false, ltb-true, ltb-false}
 use Rattle.std.proofs.lemmas.Option.{none-some, same_Some}
 use Rattle.osm_model.specs.declared.kind.Kind.{Kind}
@@ -12,7 +11,6 @@ use Rattle.osm_model.specs.VersionSet.{VersionSet}
 use Rattle.opl_line.specs.declared.reason.OplReason.{OplReason}
 use Rattle.opl_line.specs.Delimiter.{is_line_end, split_first}
 use Rattle.opl_line.specs.Reading.{reading_line}
-use Rattle.opl_line.specs.Spells.{Spells}
 use Rattle.opl_line.proofs.LineReasonLaws.{reported_is_reason}
 use Rattle.opl_line.proofs.SpellsLaws.{read_is_spelled, result_spelled}
 use Rattle.o5_codec.specs.declared.reason.O5Reason.{O5Reason}
@@ -24,24 +22,24 @@ use Rattle.o5_codec.proofs.RefusalLaws.{number_refused, set_refused}
 use Rattle.o5_codec.proofs.StepLaws.{set_found}
 use Rattle.osm_files.specs.declared.reason.Reason.{Reason}
 use Rattle.osm_files.specs.declared.reason.Reason.TheVariants.{BadHeader, Unsorted}
-use Rattle.osm_files.specs.FirstFault.{IsHeader, IsSetType, Passes, passes_skipped, passes_line, passes_header, passes_end, passes_reset}
+use Rattle.osm_files.specs.FirstFault.{IsSetType, Passes, passes_skipped, passes_line, passes_header, passes_end, passes_reset}
 use Rattle.osm_files.specs.FirstFault.{passes_lone, passes_other, passes_object, Leads, none, more, IsFaulty, faulty_line, faulty_header}
 use Rattle.osm_files.specs.FirstFault.{faulty_length, faulty_content, after_end, IsPart, part_of_line, part_of_header, no_bytes}
 use Rattle.osm_files.specs.FirstFault.{part_of_length, part_of_content, past_end, CannotEnd, last_line, no_header, no_end, truncated}
-use Rattle.osm_files.specs.FirstFault.{IsNext, whole_unit, line_without_end, HasFirstFault, StopsAt, IsGivenBy, SourcesGive}
-use Rattle.osm_files.specs.Groups.{set_given, sorted_source, to_ascending}
+use Rattle.osm_files.specs.FirstFault.{IsNext, whole_unit, line_without_end, HasFirstFault, IsGivenBy, SourcesGive}
+use Rattle.osm_files.specs.Groups.{set_given, sorted_source}
 use Rattle.osm_files.specs.Held.{HoldsSorted}
 use Rattle.osm_files.specs.Input.{InputRest}
 use Rattle.osm_files.specs.O5.{end_byte, reset_byte, type_byte, kind_of_type, is_lone}
-use Rattle.osm_files.specs.Position.{closing_verdict, fault_of, state_or_start, units_from, window}
-use Rattle.osm_files.specs.Reason.{of_data_set, of_line}
-use Rattle.osm_files.specs.SourceLaws.{groups_before_last, input_verdict, versions_before}
-use Rattle.osm_files.specs.Stream.{Placed, SourceRest, Verdict, end_whole, end_refused, front, new_placed, verdict_at}
+use Rattle.osm_files.specs.Position.{closing_verdict, fault_of, units_from, window}
+use Rattle.osm_files.specs.Reason.{of_data_set}
+use Rattle.osm_files.specs.SourceLaws.{input_verdict, versions_before}
+use Rattle.osm_files.specs.Stream.{Placed, SourceRest, Verdict, end_whole, new_placed, verdict_at}
 use Rattle.osm_files.specs.Units.{FileStateData, InOpl, BeforeHeader, InSegment, PastEnd, UnitResult, FileUnit, unit, no_version, unit_at}
 use Rattle.osm_files.specs.Units.{last_at, line_found, line_unit, header_unit, is_header, segment_unit, sized_unit, length_at, is_ended}
 use Rattle.osm_files.specs.Units.{content_found, set_found as found_of, unit_after_end, found_then, final_units, unit_then, units_within}
 use Rattle.osm_files.specs.Units.{units, start_of}
-use Rattle.osm_files.specs.Verdict.{is_below, is_below_last, sorted_verdict, versions_of}
+use Rattle.osm_files.specs.Verdict.{is_below, sorted_verdict}
 use Rattle.osm_files.proofs.UnitLaws.{SplitsAs, splits, drop_after, unit_in_opl, last_in_opl}
 use Rattle.osm_files.proofs.PartLaws.{byte_of, last_in_set, last_in_segment, last_after}
 use Rattle.osm_files.proofs.SizeLaws.{LengthFound, length_found, content_sized}
@@ -50,7 +48,7 @@ use Rattle.osm_files.proofs.PartLaws.{unit_in_segment}
 use Rattle.osm_files.proofs.FileLaws.{header_found, header_tested, last_before_header, unit_before_header, Rises, rises_sorted}
 use Rattle.osm_files.proofs.StepLaws.{unit_sized}
 use Rattle.osm_files.proofs.PositionLaws.{from_is}
-use Rattle.osm_files.proofs.PlaceLaws.{Follow, input_follows}
+use Rattle.osm_files.proofs.OffsetLaws.{input_follows}
 use Rattle.osm_files.proofs.FaultyLaws.{broken_is_refused}
 use Rattle.osm_files.proofs.HoldLaws.{source_refusal, source_gives_held, whole_source_is_held}
 use Rattle.osm_files.proofs.RefusedLaws.{Meets, early, goes_on, stops, last_of, at_last, faulty_input_gives}
@@ -218,85 +216,85 @@ latest_is (v ∷ versions) = latest_of v versions ∙ sym (at_last v versions (l
 module _ (close : Option Verdict) (v : Verdict) where
   -- why the reading stops, after these versions and one before them
   abbrev Stops : Option VersionData → List VersionData → FileStateData → List ℕ → ℕ → Type 0
-  Stops before versions stage rest place =
-      (IsFaulty stage rest v.reason × (v.place ≡ place))
-      ⊎ ((w : VersionData) × IsNext close stage rest w × (is_below w (latest before versions) ≡ true) × (v ≡ verdict_at place Unsorted))
-      ⊎ (IsPart stage rest × (((close ≡ None) × CannotEnd stage rest v.reason × (v.place ≡ place)) ⊎ (close ≡ Some v)))
+  Stops before versions stage rest offset =
+      (IsFaulty stage rest v.reason × (v.place ≡ offset))
+      ⊎ ((w : VersionData) × IsNext close stage rest w × (is_below w (latest before versions) ≡ true) × (v ≡ verdict_at offset Unsorted))
+      ⊎ (IsPart stage rest × (((close ≡ None) × CannotEnd stage rest v.reason × (v.place ≡ offset)) ⊎ (close ≡ Some v)))
 
   -- the fault was found after these units from an offset on
-  record Found (before : Option VersionData) (stage : FileStateData) (place : ℕ) (bytes : List ℕ) (us : List Placed) : Type 0 where
+  record Found (before : Option VersionData) (stage : FileStateData) (offset : ℕ) (bytes : List ℕ) (us : List Placed) : Type 0 where
     versions : List VersionData
     last : FileStateData
     rest : List ℕ
     leads : Leads stage bytes versions last rest
     rises : Rises before versions
     at : ℕ
-    after : at + length rest ≡ place + length bytes
+    after : at + length rest ≡ offset + length bytes
     stops : Stops before versions last rest at
     until : early v us ≡ versions
 
   -- the fault is at the front
-  at_front : (before : Option VersionData) (stage : FileStateData) (place : ℕ) (bytes : List ℕ) (us : List Placed)
-      → Stops before [] stage bytes place → early v us ≡ [] → Found before stage place bytes us
-  at_front before stage place bytes us why until = record {
+  at_front : (before : Option VersionData) (stage : FileStateData) (offset : ℕ) (bytes : List ℕ) (us : List Placed)
+      → Stops before [] stage bytes offset → early v us ≡ [] → Found before stage offset bytes us
+  at_front before stage offset bytes us why until = record {
     versions = [];
     last = stage;
     rest = bytes;
     leads = none stage bytes;
     rises = tt;
-    at = place;
+    at = offset;
     after = refl;
     stops = why;
     until = until;
   }
 
-  unsorted_here : (before : Option VersionData) (stage : FileStateData) (place : ℕ) (bytes : List ℕ) (w : VersionData) (us : List Placed)
-      (refusal : Option Verdict) (from : ℕ) → IsNext close stage bytes w → (m : Meets v refusal before from (new_placed place w ∷ us))
-      → is_below w before ≡ true → Found before stage place bytes (new_placed place w ∷ us)
-  unsorted_here before stage place bytes w us refusal from next m below =
-      let found : Some (verdict_at place Unsorted) ≡ Some v =
-      sym (ap (λ t. cond t (Some (verdict_at place Unsorted)) (sorted_verdict refusal (Some w) us)) below) ∙ m.1 in
-      at_front before stage place bytes (new_placed place w ∷ us)
-      (inr (inl (w, next, below, sym (same_Some (verdict_at place Unsorted) v found))))
-      (stops v refusal before from (new_placed place w) us m below)
+  unsorted_here : (before : Option VersionData) (stage : FileStateData) (offset : ℕ) (bytes : List ℕ) (w : VersionData) (us : List Placed)
+      (refusal : Option Verdict) (from : ℕ) → IsNext close stage bytes w → (m : Meets v refusal before from (new_placed offset w ∷ us))
+      → is_below w before ≡ true → Found before stage offset bytes (new_placed offset w ∷ us)
+  unsorted_here before stage offset bytes w us refusal from next m below =
+      let found : Some (verdict_at offset Unsorted) ≡ Some v =
+      sym (ap (λ t. cond t (Some (verdict_at offset Unsorted)) (sorted_verdict refusal (Some w) us)) below) ∙ m.1 in
+      at_front before stage offset bytes (new_placed offset w ∷ us)
+      (inr (inl (w, next, below, sym (same_Some (verdict_at offset Unsorted) v found))))
+      (stops v refusal before from (new_placed offset w) us m below)
 
-  refused_here : (before : Option VersionData) (stage : FileStateData) (place : ℕ) (bytes : List ℕ) (reason : Reason)
-      → Some (verdict_at place reason) ≡ Some v → IsFaulty stage bytes reason → Found before stage place bytes []
-  refused_here before stage place bytes reason is faulty =
-      let same : verdict_at place reason ≡ v = same_Some (verdict_at place reason) v is in
-      at_front before stage place bytes []
+  refused_here : (before : Option VersionData) (stage : FileStateData) (offset : ℕ) (bytes : List ℕ) (reason : Reason)
+      → Some (verdict_at offset reason) ≡ Some v → IsFaulty stage bytes reason → Found before stage offset bytes []
+  refused_here before stage offset bytes reason is faulty =
+      let same : verdict_at offset reason ≡ v = same_Some (verdict_at offset reason) v is in
+      at_front before stage offset bytes []
       (inl (subst (IsFaulty stage bytes) (ap (λ x. x.reason) same) faulty, ap (λ x. x.place) (sym same))) refl
 
   abbrev Finds : Option VersionData → FileStateData → ℕ → List ℕ → SourceRest Placed Verdict → Type 0
-  Finds before stage place bytes us = (from : ℕ) → Meets v us.refusal before from us.list → Found before stage place bytes us.list
+  Finds before stage offset bytes us = (from : ℕ) → Meets v us.refusal before from us.list → Found before stage offset bytes us.list
 
-  last_finds : (before : Option VersionData) (stage : FileStateData) (place : ℕ) (bytes : List ℕ) → IsPart stage bytes → close ≡ None
-      → (last : UnitResult) → LastMeans stage bytes last → Finds before stage place bytes (found_then place last (λ next. end_whole))
-  last_finds before stage place bytes part is_open (Err reason) means from m =
-      let same : verdict_at place reason ≡ v = same_Some (verdict_at place reason) v m.1 in
-      at_front before stage place bytes []
+  last_finds : (before : Option VersionData) (stage : FileStateData) (offset : ℕ) (bytes : List ℕ) → IsPart stage bytes → close ≡ None
+      → (last : UnitResult) → LastMeans stage bytes last → Finds before stage offset bytes (found_then offset last (λ next. end_whole))
+  last_finds before stage offset bytes part is_open (Err reason) means from m =
+      let same : verdict_at offset reason ≡ v = same_Some (verdict_at offset reason) v m.1 in
+      at_front before stage offset bytes []
       (inr (inr (part, inl (is_open, subst (CannotEnd stage bytes) (ap (λ x. x.reason) same) means, ap (λ x. x.place) (sym same))))) refl
-  last_finds before stage place bytes part is_open (Ok (None, next)) means from m = absurd (none-some v m.1)
-  last_finds before stage place bytes part is_open (Ok (Some w, next)) means from m =
-      elim (is_below w before) as (λ t. is_below w before ≡ t → Found before stage place bytes (new_placed place w ∷ [])) [
-        | true ↦ λ below. unsorted_here before stage place bytes w [] None from
+  last_finds before stage offset bytes part is_open (Ok (None, next)) means from m = absurd (none-some v m.1)
+  last_finds before stage offset bytes part is_open (Ok (Some w, next)) means from m =
+      elim (is_below w before) as (λ t. is_below w before ≡ t → Found before stage offset bytes (new_placed offset w ∷ [])) [
+        | true ↦ λ below. unsorted_here before stage offset bytes w [] None from
             (subst (λ (c : Option Verdict). IsNext c stage bytes w) (sym is_open) means) m below
         | false ↦ λ above. absurd (none-some v
-            (sym (ap (λ t. cond t (Some (verdict_at place Unsorted)) None) above) ∙ m.1))
+            (sym (ap (λ t. cond t (Some (verdict_at offset Unsorted)) None) above) ∙ m.1))
       ] refl
 
-  final_finds : (before : Option VersionData) (stage : FileStateData) (place : ℕ) (bytes : List ℕ) → IsPart stage bytes
-      → (end : Option Verdict) → close ≡ end → Finds before stage place bytes (final_units end place (last_at stage bytes))
-  final_finds before stage place bytes part None e from m =
-      last_finds before stage place bytes part e (last_at stage bytes) (last_means stage bytes part) from m
-  final_finds before stage place bytes part (Some w) e from m =
-      at_front before stage place bytes [] (inr (inr (part, inr (e ∙ m.1)))) refl
+  final_finds : (before : Option VersionData) (stage : FileStateData) (offset : ℕ) (bytes : List ℕ) → IsPart stage bytes
+      → (end : Option Verdict) → close ≡ end → Finds before stage offset bytes (final_units end offset (last_at stage bytes))
+  final_finds before stage offset bytes part None e from m =
+      last_finds before stage offset bytes part e (last_at stage bytes) (last_means stage bytes part) from m
+  final_finds before stage offset bytes part (Some w) e from m =
+      at_front before stage offset bytes [] (inr (inr (part, inr (e ∙ m.1)))) refl
 
   -- a unit, and the fault after it
-  after_unit : (before : Option VersionData) (stage next : FileStateData) (place size : ℕ) (bytes : List ℕ) (us : List Placed)
-      → size ≤ length bytes → Passes stage bytes None next (drop size bytes) → Found before next (place + size) (drop size bytes) us
-      → Found before stage place bytes us
-  after_unit before stage next place size bytes us within passes found = record {
+  after_unit : (before : Option VersionData) (stage next : FileStateData) (offset size : ℕ) (bytes : List ℕ) (us : List Placed)
+      → size ≤ length bytes → Passes stage bytes None next (drop size bytes) → Found before next (offset + size) (drop size bytes) us
+      → Found before stage offset bytes us
+  after_unit before stage next offset size bytes us within passes found = record {
     versions = found.versions;
     last = found.last;
     rest = found.rest;
@@ -308,11 +306,11 @@ module _ (close : Option Verdict) (v : Verdict) where
     until = found.until;
   }
 
-  after_version : (before : Option VersionData) (stage next : FileStateData) (place size : ℕ) (bytes : List ℕ) (w : VersionData)
+  after_version : (before : Option VersionData) (stage next : FileStateData) (offset size : ℕ) (bytes : List ℕ) (w : VersionData)
       (us : List Placed) → size ≤ length bytes → Passes stage bytes (Some w) next (drop size bytes) → is_below w before ≡ false
-      → early v (new_placed place w ∷ us) ≡ w ∷ early v us → Found (Some w) next (place + size) (drop size bytes) us
-      → Found before stage place bytes (new_placed place w ∷ us)
-  after_version before stage next place size bytes w us within passes above met found = record {
+      → early v (new_placed offset w ∷ us) ≡ w ∷ early v us → Found (Some w) next (offset + size) (drop size bytes) us
+      → Found before stage offset bytes (new_placed offset w ∷ us)
+  after_version before stage next offset size bytes w us within passes above met found = record {
     versions = w ∷ found.versions;
     last = found.last;
     rest = found.rest;
@@ -325,44 +323,44 @@ module _ (close : Option Verdict) (v : Verdict) where
   }
 
   abbrev FindsWithin : ℕ → Type 0
-  FindsWithin n = (before : Option VersionData) (stage : FileStateData) (place : ℕ) (bytes : List ℕ) → length bytes ≤ n
-      → Finds before stage place bytes (units_within n close stage place bytes)
+  FindsWithin n = (before : Option VersionData) (stage : FileStateData) (offset : ℕ) (bytes : List ℕ) → length bytes ≤ n
+      → Finds before stage offset bytes (units_within n close stage offset bytes)
 
-  unit_finds : (n : ℕ) → FindsWithin n → (before : Option VersionData) (stage : FileStateData) (place size : ℕ) (bytes : List ℕ)
+  unit_finds : (n : ℕ) → FindsWithin n → (before : Option VersionData) (stage : FileStateData) (offset size : ℕ) (bytes : List ℕ)
       → 1 ≤ size → size ≤ length bytes → length bytes ≤ suc n → (found : UnitResult) → FoundMeans stage bytes found (drop size bytes)
-      → Finds before stage place bytes
-      (found_then place found (λ next. units_within n close next (place + size) (drop size bytes)))
-  unit_finds n on before stage place size bytes some within fits (Err reason) means from m =
-      refused_here before stage place bytes reason m.1 means
-  unit_finds n on before stage place size bytes some within fits (Ok (None, next)) means from m =
+      → Finds before stage offset bytes
+      (found_then offset found (λ next. units_within n close next (offset + size) (drop size bytes)))
+  unit_finds n on before stage offset size bytes some within fits (Err reason) means from m =
+      refused_here before stage offset bytes reason m.1 means
+  unit_finds n on before stage offset size bytes some within fits (Ok (None, next)) means from m =
       let fewer : length (drop size bytes) ≤ n = omega (arith, length-drop size bytes, some, within, fits) in
-      after_unit before stage next place size bytes (units_within n close next (place + size) (drop size bytes)).list within means
-      (on before next (place + size) (drop size bytes) fewer from m)
-  unit_finds n on before stage place size bytes some within fits (Ok (Some w, next)) means from m =
+      after_unit before stage next offset size bytes (units_within n close next (offset + size) (drop size bytes)).list within means
+      (on before next (offset + size) (drop size bytes) fewer from m)
+  unit_finds n on before stage offset size bytes some within fits (Ok (Some w, next)) means from m =
       let fewer : length (drop size bytes) ≤ n = omega (arith, length-drop size bytes, some, within, fits) in
-      let us : SourceRest Placed Verdict = units_within n close next (place + size) (drop size bytes) in
-      elim (is_below w before) as (λ t. is_below w before ≡ t → Found before stage place bytes (new_placed place w ∷ us.list)) [
-        | true ↦ λ below. unsorted_here before stage place bytes w us.list us.refusal from
+      let us : SourceRest Placed Verdict = units_within n close next (offset + size) (drop size bytes) in
+      elim (is_below w before) as (λ t. is_below w before ≡ t → Found before stage offset bytes (new_placed offset w ∷ us.list)) [
+        | true ↦ λ below. unsorted_here before stage offset bytes w us.list us.refusal from
             (whole_unit close stage next bytes (drop size bytes) w means) m below
         | false ↦ λ above. (
-            let met = goes_on v us.refusal before from (new_placed place w) us.list m above in
-            after_version before stage next place size bytes w us.list within means above met.0
-            (on (Some w) next (place + size) (drop size bytes) fewer (place + 1) met.1))
+            let met = goes_on v us.refusal before from (new_placed offset w) us.list m above in
+            after_version before stage next offset size bytes w us.list within means above met.0
+            (on (Some w) next (offset + size) (drop size bytes) fewer (offset + 1) met.1))
       ] refl
 
-  then_finds : (n : ℕ) → FindsWithin n → (before : Option VersionData) (stage : FileStateData) (place : ℕ) (bytes : List ℕ)
+  then_finds : (n : ℕ) → FindsWithin n → (before : Option VersionData) (stage : FileStateData) (offset : ℕ) (bytes : List ℕ)
       → length bytes ≤ suc n → (u : Option FileUnit) → unit_at stage bytes ≡ u → UnitMeans stage bytes u
-      → Finds before stage place bytes (unit_then close stage place bytes (units_within n close) u)
-  then_finds n on before stage place bytes fits None e means = final_finds before stage place bytes means close refl
-  then_finds n on before stage place bytes fits (Some u) e means =
+      → Finds before stage offset bytes (unit_then close stage offset bytes (units_within n close) u)
+  then_finds n on before stage offset bytes fits None e means = final_finds before stage offset bytes means close refl
+  then_finds n on before stage offset bytes fits (Some u) e means =
       let sized = unit_sized stage bytes u e in
-      unit_finds n on before stage place u.size bytes sized.some sized.within fits u.found means
+      unit_finds n on before stage offset u.size bytes sized.some sized.within fits u.found means
 
   within_finds : (n : ℕ) → FindsWithin n
-  within_finds zero before stage place [] fits = final_finds before stage place [] (no_unit stage) close refl
-  within_finds zero before stage place (b ∷ bytes) fits = absurd (omega (arith, fits))
-  within_finds (suc n) before stage place bytes fits =
-      then_finds n (within_finds n) before stage place bytes fits (unit_at stage bytes) refl (unit_means stage bytes)
+  within_finds zero before stage offset [] fits = final_finds before stage offset [] (no_unit stage) close refl
+  within_finds zero before stage offset (b ∷ bytes) fits = absurd (omega (arith, fits))
+  within_finds (suc n) before stage offset bytes fits =
+      then_finds n (within_finds n) before stage offset bytes fits (unit_at stage bytes) refl (unit_means stage bytes)
 
   units_find : (stage : FileStateData) (bytes : List ℕ) → Finds None stage 0 bytes (units close stage 0 bytes)
   unfolding units
@@ -381,7 +379,7 @@ first_fault c v is =
       rest = found.rest;
       leads = found.leads;
       sorted = rises_sorted found.versions found.rises;
-      place = found.at;
+      offset = found.at;
       after = found.after ∙ (let same : 0 + length (window 0 c) ≡ length (window 0 c) = omega arith in same);
       stops = subst (λ (o : Option VersionData).
           (IsFaulty found.last found.rest v.reason × (v.place ≡ found.at))

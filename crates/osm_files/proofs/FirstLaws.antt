@@ -1,10 +1,11 @@
 -- The first version of lines from an offset on.
-use Rattle.std.proofs.Common.{◌≡◌, ◌⊎◌, ⊎_elim, inl, inr, ℕ, ◌+◌, ◌-◌, ◌≤◌, ◌<◌, ◌^◌, Bool, true, false, List, [], ◌∷◌, ◌++◌, length, take}
+use Rattle.std.proofs.Common.{◌≡◌, ⊎_elim, inl, inr, ℕ, ◌+◌, ◌-◌, ◌≤◌, ◌<◌, ◌^◌, Bool, true, false, List, [], ◌∷◌, ◌++◌, length, take}
 use Rattle.std.proofs.Common.{refl, sym, ap, ◌∙◌, subst, arith, Option, Some, None, Result, Ok, Err, option_map, length-drop}
 use Rattle.std.specs.Prelude.{if◌then◌else◌}
 use Rattle.std.proofs.lemmas.Bool.{lt-ltb, ltb-false, ltb-true}
 use Rattle.std.proofs.lemmas.List.{append-nil}
 use Rattle.std.proofs.Math.Seq.{take-append-add}
+use Rattle.std.proofs.lemmas.Option.{none-some}
 use Rattle.osm_model.specs.Data.{VersionData}
 use Rattle.osm_files.specs.declared.fault.Fault.{Fault}
 use Rattle.osm_files.specs.declared.reason.Reason.TheVariants.{ReadFault}
@@ -23,13 +24,13 @@ use Rattle.osm_files.specs.Units.{InOpl, units}
 use Rattle.osm_files.specs.Verdict.{length_limit, versions_of}
 use Rattle.osm_files.proofs.FaultyLaws.{Units, Splits, splits}
 use Rattle.osm_files.proofs.PositionLaws.{from_is}
-use Rattle.osm_files.proofs.UnitLaws.{ReadsAs, some_is_not_none, opl_reads}
+use Rattle.osm_files.proofs.UnitLaws.{ReadsAs, opl_reads}
 
 -- a reading of the lines of a file from an offset on
 abbrev pub of_lines : {R : Type 0} → ℕ → ℕ → R → Position R
-of_lines input place reader = record {
+of_lines input offset reader = record {
   input = input;
-  place = place;
+  offset = offset;
   held = [];
   rest = reader;
   stage = Some InOpl;
@@ -44,24 +45,24 @@ version_read (Err fault) = Err fault
 
 -- the verdict that closes an input that ends below the limit, or fails there
 abbrev closing : ℕ → InputRest → Option Verdict
-closing place c = if c.broken then Some (verdict_at (place + length c.bytes) ReadFault) else None
+closing offset c = if c.broken then Some (verdict_at (offset + length c.bytes) ReadFault) else None
 
-closing_is : (place : ℕ) (c : InputRest) → place + length c.bytes < 2 ^ 62 → closing_verdict place c ≡ closing place c
+closing_is : (offset : ℕ) (c : InputRest) → offset + length c.bytes < 2 ^ 62 → closing_verdict offset c ≡ closing offset c
 unfolding length_limit
-closing_is place c short = rw (lt-ltb (place + length c.bytes) (2 ^ 62) short) refl
+closing_is offset c short = rw (lt-ltb (offset + length c.bytes) (2 ^ 62) short) refl
 
-all_count : (place : ℕ) (c : InputRest) → place + length c.bytes < 2 ^ 62 → window place c ≡ c.bytes
+all_count : (offset : ℕ) (c : InputRest) → offset + length c.bytes < 2 ^ 62 → window offset c ≡ c.bytes
 unfolding length_limit
-all_count place c short = rw (lt-ltb (place + length c.bytes) (2 ^ 62) short) refl
+all_count offset c short = rw (lt-ltb (offset + length c.bytes) (2 ^ 62) short) refl
 
-units_of_lines : (place : ℕ) (c : InputRest) → place + length c.bytes < 2 ^ 62 →
-    units_from (Some InOpl) place c ≡ units (closing place c) InOpl place c.bytes
-units_of_lines place c short =
-    from_is (Some InOpl) place c ∙ (λ i. units (closing_is place c short i) InOpl place (all_count place c short i))
+units_of_lines : (offset : ℕ) (c : InputRest) → offset + length c.bytes < 2 ^ 62 →
+    units_from (Some InOpl) offset c ≡ units (closing offset c) InOpl offset c.bytes
+units_of_lines offset c short =
+    from_is (Some InOpl) offset c ∙ (λ i. units (closing_is offset c short i) InOpl offset (all_count offset c short i))
 
-reads_lines : (place : ℕ) (bytes : List ℕ) → ReadsAs (units None InOpl place bytes) (OplFile bytes)
+reads_lines : (offset : ℕ) (bytes : List ℕ) → ReadsAs (units None InOpl offset bytes) (OplFile bytes)
 unfolding units
-reads_lines place bytes = opl_reads (length bytes) bytes place (omega arith)
+reads_lines offset bytes = opl_reads (length bytes) bytes offset (omega arith)
 
 -- the versions that are read in the lines of an OPL file are those that the file spells
 pub lines_read : (bytes : List ℕ) (versions : List VersionData) → OplFile bytes versions →
@@ -69,7 +70,7 @@ pub lines_read : (bytes : List ℕ) (versions : List VersionData) → OplFile by
 lines_read bytes versions file = ((reads_lines 0 bytes).read versions file).1
 
 not_refused : {E F : Type 0} (f : E → F) (refusal : Option E) (x : F) → option_map f refusal ≡ Some x → refusal ≡ None → ⊥
-not_refused f refusal x is none = some_is_not_none x (sym is ∙ ap (option_map f) none)
+not_refused f refusal x is none = none-some x (sym (ap (option_map f) none) ∙ is)
 
 first_listed : (us : List Placed) (line : Placed) (more : List Placed) (versions : List VersionData) → us ≡ line ∷ more →
     versions_of us ≡ versions → IsFirstOf (Some line.version) versions
@@ -79,39 +80,39 @@ none_listed : (us : List Placed) (versions : List VersionData) → us ≡ [] →
 none_listed us versions is same = subst (IsFirstOf None) (ap versions_of (sym is) ∙ same) refl
 
 -- the result of the first call on the lines is a result for their first version
-first_in : (Fails : Type 0) (input place : ℕ) (bytes : List ℕ) (result : Result (Option Placed) Fault)
+first_in : (Fails : Type 0) (input offset : ℕ) (bytes : List ℕ) (result : Result (Option Placed) Fault)
     (after : Option (SourceRest Placed Fault)) →
-    SourceStep (Some (with_input input (units None InOpl place bytes))) result after → IsFirstIn Fails bytes (version_read result)
-first_in Fails input place bytes (Ok None) after step = λ versions file.
-    let read = (reads_lines place bytes).read versions file in
-    none_listed (units None InOpl place bytes).list versions (ap (λ s. s.list) step.0) read.1
-first_in Fails input place bytes (Ok (Some line)) after (t, is, rest) = λ versions file.
-    let read = (reads_lines place bytes).read versions file in
-    first_listed (units None InOpl place bytes).list line t.list versions (ap (λ s. s.list) is) read.1
-first_in Fails input place bytes (Err fault) after (why, next) =
+    SourceStep (Some (with_input input (units None InOpl offset bytes))) result after → IsFirstIn Fails bytes (version_read result)
+first_in Fails input offset bytes (Ok None) after step = λ versions file.
+    let read = (reads_lines offset bytes).read versions file in
+    none_listed (units None InOpl offset bytes).list versions (ap (λ s. s.list) step.0) read.1
+first_in Fails input offset bytes (Ok (Some line)) after (t, is, rest) = λ versions file.
+    let read = (reads_lines offset bytes).read versions file in
+    first_listed (units None InOpl offset bytes).list line t.list versions (ap (λ s. s.list) is) read.1
+first_in Fails input offset bytes (Err fault) after (why, next) =
     ⊎_elim (λ memory. inl (inl memory))
     (λ refused. inr (λ versions file. not_refused (λ (v : Verdict). record { input = input; place = v.place; reason = v.reason })
-    (units None InOpl place bytes).refusal fault (ap (λ s. s.refusal) refused) ((reads_lines place bytes).read versions file).0)) why
+    (units None InOpl offset bytes).refusal fault (ap (λ s. s.refusal) refused) ((reads_lines offset bytes).read versions file).0)) why
 
 -- The result of the first call on lines that an error follows is a result for the first version of these lines and of
 -- whatever lines follow them.
-first_of_front : (Fails : Type 0) → Fails → (input place : ℕ) (bytes more : List ℕ) (close : Verdict) → close.reason ≡ ReadFault
-    → Splits InOpl place bytes → (result : Result (Option Placed) Fault) (later : Option (SourceRest Placed Fault)) →
-    SourceStep (Some (with_input input (units (Some close) InOpl place bytes))) result later →
+first_of_front : (Fails : Type 0) → Fails → (input offset : ℕ) (bytes more : List ℕ) (close : Verdict) → close.reason ≡ ReadFault
+    → Splits InOpl offset bytes → (result : Result (Option Placed) Fault) (later : Option (SourceRest Placed Fault)) →
+    SourceStep (Some (with_input input (units (Some close) InOpl offset bytes))) result later →
     IsFirstIn Fails (bytes ++ more) (version_read result)
-first_of_front Fails may input place bytes more close fails (inr h) result later step =
-    first_in Fails input place (bytes ++ more) result later
+first_of_front Fails may input offset bytes more close fails (inr h) result later step =
+    first_in Fails input offset (bytes ++ more) result later
     (subst (λ (us : Units). SourceStep (Some (with_input input us)) result later) (h.faulty close ∙ sym (h.stays more None)) step)
-first_of_front Fails may input place bytes more close fails (inl h) (Ok None) later step =
-    absurd (some_is_not_none (fault_of input close)
-    (sym (ap (λ us. option_map (fault_of input) us.refusal) (h.closes close)) ∙ ap (λ s. s.refusal) step.0))
-first_of_front Fails may input place bytes more close fails (inl h) (Ok (Some line)) later (t, is, rest) = λ versions file.
-    let read = (reads_lines place (bytes ++ more)).read versions file in
+first_of_front Fails may input offset bytes more close fails (inl h) (Ok None) later step =
+    absurd (none-some (fault_of input close)
+    (sym (ap (λ s. s.refusal) step.0) ∙ ap (λ us. option_map (fault_of input) us.refusal) (h.closes close)))
+first_of_front Fails may input offset bytes more close fails (inl h) (Ok (Some line)) later (t, is, rest) = λ versions file.
+    let read = (reads_lines offset (bytes ++ more)).read versions file in
     let whole = h.longer more None in
     let listed : h.list ≡ line ∷ t.list = sym (ap (λ us. us.list) (h.closes close)) ∙ ap (λ s. s.list) is in
-    first_listed (units None InOpl place (bytes ++ more)).list line (t.list ++ whole.0.list) versions
+    first_listed (units None InOpl offset (bytes ++ more)).list line (t.list ++ whole.0.list) versions
     (ap (λ us. us.list) whole.1 ∙ ap (λ us. us ++ whole.0.list) listed) read.1
-first_of_front Fails may input place bytes more close fails (inl h) (Err fault) later (why, next) =
+first_of_front Fails may input offset bytes more close fails (inl h) (Err fault) later (why, next) =
     inl (⊎_elim (λ memory. inl memory)
     (λ refused.
     let found : Some (fault_of input close) ≡ Some fault =
@@ -120,19 +121,20 @@ first_of_front Fails may input place bytes more close fails (inl h) (Err fault) 
     inr (may, ap (λ f. f.reason) (sym same) ∙ fails)) why)
 
 -- the result of the first call on an input that gives all of the lines, or a front of them and then an error
-first_of : (Fails : Type 0) (input place : ℕ) (lines bytes : List ℕ) (broken : Bool) → (broken ≡ true → Fails)
+first_of : (Fails : Type 0) (input offset : ℕ) (lines bytes : List ℕ) (broken : Bool) → (broken ≡ true → Fails)
     → CanGive (Some lines) (record { bytes = bytes; broken = broken }) →
     (result : Result (Option Placed) Fault) (later : Option (SourceRest Placed Fault)) →
-    SourceStep (Some (with_input input (units (closing place (record { bytes = bytes; broken = broken })) InOpl place bytes))) result later
+    SourceStep (Some (with_input input (units (closing offset (record { bytes = bytes; broken = broken })) InOpl offset bytes))) result
+    later
     →
     IsFirstIn Fails lines (version_read result)
-first_of Fails input place lines bytes true failing (rest, is, whole) result later step =
+first_of Fails input offset lines bytes true failing (rest, is, whole) result later step =
     subst (λ (xs : List ℕ). IsFirstIn Fails xs (version_read result)) (sym is)
-    (first_of_front Fails (failing refl) input place bytes rest (verdict_at (place + length bytes) ReadFault) refl
-    (splits (length bytes) InOpl place bytes (omega arith)) result later step)
-first_of Fails input place lines bytes false failing (rest, is, whole) result later step =
+    (first_of_front Fails (failing refl) input offset bytes rest (verdict_at (offset + length bytes) ReadFault) refl
+    (splits (length bytes) InOpl offset bytes (omega arith)) result later step)
+first_of Fails input offset lines bytes false failing (rest, is, whole) result later step =
     subst (λ (xs : List ℕ). IsFirstIn Fails xs (version_read result)) (sym (is ∙ ap (λ r. bytes ++ r) (whole refl) ∙ append-nil bytes))
-    (first_in Fails input place bytes result later step)
+    (first_in Fails input offset bytes result later step)
 
 -- an extent within a file gives all of its bytes there, or a front of them and then an error
 extent_can : (Fails : Type 0) (all : List ℕ) (start end : ℕ) (c : InputRest) → ExtentCanGive Fails (Some all) start end c →
@@ -160,7 +162,7 @@ extent_fails Fails all start end c gives within broken =
     (λ last. absurd (omega (arith, short, ap length last, length-drop start all, within)))
     (gives.why short)
 
-refusal_input : (input : ℕ) (refusal : Option Verdict) (fault : Fault) → option_map (fault_of input) refusal ≡ Some fault →
+pub refusal_input : (input : ℕ) (refusal : Option Verdict) (fault : Fault) → option_map (fault_of input) refusal ≡ Some fault →
     fault.input ≡ input
 refusal_input input None fault is = absurd (let e : None ≡ Some fault = is in cc)
 refusal_input input (Some v) fault is = let e : fault_of input v ≡ fault = cc in ap (λ f. f.input) (sym e)
@@ -182,9 +184,9 @@ module _ {R : Type 0} (can : R → InputRest → Type 0) (one : R → InputRest)
       (subst (λ us. SourceStep (Some (with_input input us)) result later) (units_of_lines start y.0 few) y.2)
 
   -- a fault of the first call on the lines has the number of the file
-  number_given : (start : ℕ) (reader : R) (fault : Fault) (q : Position R) →
+  input_given : (start : ℕ) (reader : R) (fault : Fault) (q : Position R) →
       StepsOn can (of_lines input start reader) (Err fault) q → IsOfFile input fault
-  number_given start reader fault q steps =
+  input_given start reader fault q steps =
       let y = steps (one q.rest) (possible q.rest) in
       ⊎_elim (λ memory. inl memory)
       (λ refused. inr (refusal_input input (units_from (Some InOpl) start y.0).refusal fault (ap (λ s. s.refusal) refused))) y.2.0
@@ -212,9 +214,9 @@ module _ {F : Type 0} (fails : F → Type 0) (bytes : F → Option (List ℕ)) w
         (λ c. subst (λ (t : F × ℕ × ℕ). ExtentCanGive (fails t.0) (bytes t.0) t.1 t.2 c) (λ i. (same i, from i, upto i))) result q steps
 
     -- A fault of the first call has the number of the file.
-    pub first_number : (fault : Fault) → result ≡ Err fault → IsOfFile input fault
-    first_number fault is =
-        number_given Given one possible input start reader fault q
+    pub first_input : (fault : Fault) → result ≡ Err fault → IsOfFile input fault
+    first_input fault is =
+        input_given Given one possible input start reader fault q
         (subst (λ r. StepsOn Given (of_lines input start reader) r q) is steps)
 
 -- the lines of a file spell one list of versions

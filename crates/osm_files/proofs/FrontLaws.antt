@@ -1,6 +1,6 @@
 -- What a source gives of the front of a sorted file, if its input fails after the front.
-use Rattle.std.proofs.Common.{◌≡◌, ⊎_elim, ℕ, ◌+◌, ◌<◌, ◌^◌, Bool, true, false, cond, List, [], ◌∷◌, ◌++◌, length, refl, sym, ap, ◌∙◌}
-use Rattle.std.proofs.Common.{arith, Option, Some, None, option_map, append_assoc, length-append, inl, inr}
+use Rattle.std.proofs.Common.{◌≡◌, ℕ, ◌<◌, ◌^◌, true, false, cond, List, [], ◌∷◌, ◌++◌, length, refl, sym, ap, ◌∙◌}
+use Rattle.std.proofs.Common.{arith, Some, None, option_map, append_assoc, length-append, inl, inr}
 use Rattle.osm_model.specs.Data.{VersionData}
 use Rattle.osm_model.specs.Sets.{to_list}
 use Rattle.osm_model.specs.VersionSet.{VersionSet}
@@ -8,16 +8,16 @@ use Rattle.osm_files.specs.declared.fault.Fault.{Fault}
 use Rattle.osm_files.specs.declared.reason.Reason.TheVariants.{ReadFault, Unsorted}
 use Rattle.osm_files.specs.Groups.{to_ascending, is_in_group, is_after_group, versions_then, groups, sorted_source}
 use Rattle.osm_files.specs.Held.{HoldsSorted}
-use Rattle.osm_files.specs.Input.{whole_input as all_of}
 use Rattle.osm_files.specs.LoadLaws.{broken_after}
-use Rattle.osm_files.specs.Position.{units_from, fault_of}
+use Rattle.osm_files.specs.Position.{fault_of}
 use Rattle.osm_files.specs.Stream.{Verdict, verdict_at, Placed, SourceRest, end_refused}
-use Rattle.osm_files.specs.Units.{InOpl, units, start_of}
+use Rattle.osm_files.specs.Units.{units, start_of}
 use Rattle.osm_files.specs.Verdict.{file_units}
 use Rattle.osm_files.proofs.FaultyLaws.{Units, Splits, splits, nothing_closes}
 use Rattle.osm_files.proofs.FileLaws.{files_are_read, short_units}
-use Rattle.osm_files.proofs.HoldLaws.{source_whole, broken_units, source_gives_held}
+use Rattle.osm_files.proofs.HoldLaws.{source_whole, source_gives_held}
 use Rattle.osm_files.proofs.RiseLaws.{source_is}
+use Rattle.osm_files.proofs.LoadFaults.{broken_units}
 
 -- The versions that units give before a fault are the first ones that they and more units give.
 groups_front : (input : ℕ) (fault : Fault) (us more : List Placed) (group : List VersionData) → (rest : List VersionData)
@@ -27,16 +27,16 @@ groups_front input fault (u ∷ us) more group =
     elim (is_in_group group u.version) as (λ t. (rest : List VersionData)
     × ((cond t (groups input None (us ++ more) (group ++ u.version ∷ []))
     (cond (is_after_group group u.version) (versions_then (to_ascending group) (groups input None (us ++ more) (u.version ∷ [])))
-    (end_refused (fault_of input (verdict_at u.place Unsorted))))).list
+    (end_refused (fault_of input (verdict_at u.offset Unsorted))))).list
     ≡ (cond t (groups input (Some fault) us (group ++ u.version ∷ []))
     (cond (is_after_group group u.version) (versions_then (to_ascending group) (groups input (Some fault) us (u.version ∷ [])))
-    (end_refused (fault_of input (verdict_at u.place Unsorted))))).list ++ rest)) [
+    (end_refused (fault_of input (verdict_at u.offset Unsorted))))).list ++ rest)) [
       | true ↦ groups_front input fault us more (group ++ u.version ∷ [])
       | false ↦ (elim (is_after_group group u.version) as (λ t. (rest : List VersionData)
           × ((cond t (versions_then (to_ascending group) (groups input None (us ++ more) (u.version ∷ [])))
-          (end_refused (fault_of input (verdict_at u.place Unsorted)))).list
+          (end_refused (fault_of input (verdict_at u.offset Unsorted)))).list
           ≡ (cond t (versions_then (to_ascending group) (groups input (Some fault) us (u.version ∷ [])))
-          (end_refused (fault_of input (verdict_at u.place Unsorted)))).list ++ rest)) [
+          (end_refused (fault_of input (verdict_at u.offset Unsorted)))).list ++ rest)) [
             | true ↦ (let h = groups_front input fault us more (u.version ∷ []) in (
               h.0,
               ap (λ vs. to_ascending group ++ vs) h.1

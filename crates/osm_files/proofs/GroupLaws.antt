@@ -10,6 +10,7 @@ use Rattle.std.specs.Ordering.{eq_by_cmp, is_eq, is_lt, is_gt}
 use Rattle.std.specs.List.{list_any, dedup, AllByRecursion}
 use Rattle.std.specs.List.Sorted.{IsStrictlySortedBy, IsSorted, IsPermutation}
 use Rattle.std.proofs.lemmas.List.Sorted.{IsPermutation-append_comm, IsPermutation-trans}
+use Rattle.std.proofs.lemmas.Option.{IfSome_then}
 use Rattle.osm_model.specs.Data.{VersionData}
 use Rattle.osm_model.specs.Order.{key_cmp, version_cmp, version_cmp_total}
 use Rattle.osm_model.specs.Sets.{to_list, from_list}
@@ -23,7 +24,7 @@ use Rattle.osm_files.specs.Groups.{RefusesGroup}
 use Rattle.osm_files.specs.Position.{Keeps, fault_of}
 use Rattle.osm_files.specs.Source.{SourceStep}
 use Rattle.osm_files.specs.Stream.{verdict_at, Placed, SourceRest, end_whole, end_refused, front}
-use Rattle.osm_files.proofs.FillLaws.{weaker, keeps_on}
+use Rattle.osm_files.proofs.FillLaws.{keeps_on}
 
 -- a property of a known value that is unchanged
 pub from_kept : {A : Type 0} (before after : Option A) (P : A → Type 0) → Keeps before after → IfSome after P → IfSome before P
@@ -31,7 +32,7 @@ from_kept None after P k h = tt
 from_kept {A} (Some x) after P k h = let Q : Option A → Type 0 = λ o. IfSome o P in subst Q k h
 
 -- ---- ascending lists
-strict_nil : IsStrictlySortedBy version_cmp []
+pub strict_nil : IsStrictlySortedBy version_cmp []
 unfolding IsStrictlySortedBy
 strict_nil = tt
 
@@ -117,11 +118,11 @@ module _ (input : ℕ) where
 
   fell : (before after : Option (SourceRest Placed Fault)) (group : List VersionData) (u : Placed) → SourceStep before (Ok (Some u)) after →
       is_in_group group u.version ≡ false → is_after_group group u.version ≡ false
-      → IfSome (still_with_ready input before group []) (λ s. s ≡ end_refused (fault_of input (verdict_at u.place Unsorted)))
+      → IfSome (still_with_ready input before group []) (λ s. s ≡ end_refused (fault_of input (verdict_at u.offset Unsorted)))
   fell None after group u h j f = tt
   fell (Some s) after group u h j f =
       let same : versions_then [] (groups input h.0.refusal (u ∷ h.0.list) group) ≡ end_refused
-      (fault_of input (verdict_at u.place Unsorted)) =
+      (fault_of input (verdict_at u.offset Unsorted)) =
       rw (j, f) refl in
       ap (λ x. versions_then [] (groups input x.refusal x.list group)) h.1 ∙ same
 
@@ -196,27 +197,27 @@ module _ (input : ℕ) where
     -- A version of a lesser key refuses the group as Unsorted.
     pub refuses_unsorted : (u : Placed) (fault : Fault) (failed : Option (SourceRest Placed Fault)) (number : ℕ) →
         SourceStep before (Ok (Some u)) after → is_gt (key_cmp first u.version) ≡ true →
-        fault ≡ fault_of input (verdict_at u.place Unsorted)
+        fault ≡ fault_of input (verdict_at u.offset Unsorted)
         → failed ≡ Some (end_refused (failed_fault number)) →
         RefusesGroup (still_with_ready input start (first ∷ has_begun) []) fault failed
     refuses_unsorted u fault failed number h greater is e =
         let falls = greater_falls (key_cmp first u.version) greater in (
-          inr (known (λ s. s ≡ end_refused fault) (weaker (still_with_ready input before (first ∷ others) []) _ _
-              (λ s k. k ∙ ap end_refused (sym is))
-              (fell before after (first ∷ others) u h falls.0 falls.1))),
+          inr (known (λ s. s ≡ end_refused fault) (IfSome_then (still_with_ready input before (first ∷ others) [])
+              (fell before after (first ∷ others) u h falls.0 falls.1)
+              (λ s k. k ∙ ap end_refused (sym is)))),
           (number, e),
         )
 
-group_on : (P : VersionData → Type 0) (others : List VersionData) (v : VersionData) → AllByRecursion P others → P v →
-    AllByRecursion P (others ++ v ∷ [])
-group_on P [] v h k = (k, tt)
-group_on P (w ∷ others) v h k = (h.0, group_on P others v h.1 k)
+-- What holds of each item of two lists holds of each item of both.
+pub all_append : {K : Type 0} (P : K → Type 0) (xs ys : List K) → AllByRecursion P xs → AllByRecursion P ys → AllByRecursion P (xs ++ ys)
+all_append P [] ys h k = k
+all_append P (x ∷ xs) ys h k = (h.0, all_append P xs ys h.1 k)
 
 -- A version of the key of a group makes a group with it.
 pub group_joined : (first : VersionData) (others : List VersionData) (v : VersionData) → IsGroup first others →
     is_lt (key_cmp first v) ≡ false → is_gt (key_cmp first v) ≡ false → IsGroup first (others ++ v ∷ [])
-group_joined first others v h less greater = group_on (λ w. key_cmp first w ≡ Equal) others v h
-    (neither_joins (key_cmp first v) less greater)
+group_joined first others v h less greater = all_append (λ w. key_cmp first w ≡ Equal) others (v ∷ []) h
+    (neither_joins (key_cmp first v) less greater, tt)
 
 -- ---- the first group begins, or there is none
 pub first_begins : (input : ℕ) (before after : Option (SourceRest Placed Fault)) (u : Placed) → SourceStep before (Ok (Some u)) after →
@@ -265,9 +266,8 @@ pub gives_first : (input : ℕ) (before : Option (SourceRest Placed Fault)) (has
     SourceStep (still_with_ready input before (first ∷ has_begun) []) (Ok (Some v))
     (still_with_ready input after (option_to_list next) ready)
 gives_first input before has_begun after first others next v ready h e =
-    weaker (still_with_ready input before (first ∷ has_begun) []) _ _
+    IfSome_then (still_with_ready input before (first ∷ has_begun) []) h.keeps
     (λ s k. first_of input after (option_to_list next) ready v s (ap (still_with_ready input after (option_to_list next)) (sym e) ∙ k))
-    h.keeps
 
 -- ---- the result of a call, from an unchanged rest
 pub step_on : {A : Type 0} (start before after : Option (SourceRest A Fault)) (r : Result (Option A) Fault) → Keeps start before →

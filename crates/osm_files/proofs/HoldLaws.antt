@@ -1,8 +1,7 @@
 -- The versions of a source of a whole file: its refusal is the file's verdict, and without one the list is that of the
 -- set held.
-use Rattle.std.proofs.Common.{◌≡◌, ℕ, ◌+◌, ◌-◌, ◌<◌, ◌≤◌, ◌^◌, Bool, true, false, ◌||◌, cond, List, [], ◌∷◌, ◌++◌, length, take, refl, ap}
+use Rattle.std.proofs.Common.{◌≡◌, ℕ, ◌+◌, ◌-◌, ◌≤◌, ◌^◌, Bool, true, false, ◌||◌, cond, List, [], ◌∷◌, ◌++◌, length, take, refl, ap}
 use Rattle.std.proofs.Common.{sym, ◌∙◌, subst, arith, Option, Some, None, option_map, append_assoc, nat_lt}
-use Rattle.std.proofs.lemmas.Bool.{lt-ltb}
 use Rattle.std.proofs.lemmas.Bool.Decides.{nat_tests}
 use Rattle.std.proofs.lemmas.List.{append-nil}
 use Rattle.std.proofs.lemmas.List.Folds.{list_any-append}
@@ -29,8 +28,9 @@ use Rattle.osm_files.specs.LoadLaws.{broken_after}
 use Rattle.osm_files.specs.SourceLaws.{SourceGivesHeld, WholeSourceIsHeld, BrokenSourceEnds, LongSourceEnds}
 use Rattle.osm_files.proofs.FileLaws.{files_are_read, sorted_files_are_read, accepted_without_verdict, sorted_without_verdict}
 use Rattle.osm_files.proofs.GroupLaws.{has, has_ascending}
-use Rattle.osm_files.proofs.LoadLaws.{whole_units}
+use Rattle.osm_files.proofs.LoadLaws.{whole_units, unnamed}
 use Rattle.osm_files.proofs.RiseLaws.{groups_rise, source_is}
+use Rattle.osm_files.proofs.LoadFaults.{broken_units}
 
 -- ---- the refusal
 -- a key against that of the version before it, which has the key of its group
@@ -100,7 +100,7 @@ module _ (input : ℕ) (v : VersionData) where
             ∙ sym (list_any-append (eq_by_cmp version_cmp v) (first ∷ others) (u.version ∷ versions_of us)))
         | Equal ↦ λ e. rw e (λ n. group_members us first (others ++ u.version ∷ []) n
             ∙ ap (λ vs. has v (first ∷ vs)) (append_assoc others (u.version ∷ []) (versions_of us)))
-        | Greater ↦ λ e. rw e (λ n. absurd (let f : Some (fault_of input (verdict_at u.place Unsorted)) ≡ None = n in cc))
+        | Greater ↦ λ e. rw e (λ n. absurd (let f : Some (fault_of input (verdict_at u.offset Unsorted)) ≡ None = n in cc))
       ] refl none
 
   groups_members : (us : List Placed) → (groups input None us []).refusal ≡ None →
@@ -147,10 +147,6 @@ source_gives_held input bytes held h =
     let refusal : (sorted_source input (all_of bytes)).refusal ≡ None = whole_refusal input bytes ∙ ap (option_map (fault_of input)) none in
     (λ i. record { list = list i; refusal = refusal i })
 
-pub no_fault : (input : ℕ) (v : Option Verdict) → option_map (fault_of input) v ≡ None → v ≡ None
-no_fault input None e = refl
-no_fault input (Some v) e = absurd (let f : Some (fault_of input v) ≡ None = e in cc)
-
 -- the versions read are those that a sorted file holds
 sorted_file : (bytes : List ℕ) (versions : List VersionData) → verdict_sorted bytes ≡ None →
     versions ≡ versions_of (file_units bytes).list → HoldsSorted bytes (from_list {R = version_cmp} versions)
@@ -168,7 +164,7 @@ sorted_file bytes versions none is =
 -- If the source of some bytes ends without a refusal, they are a sorted file that holds the versions that the source gives.
 pub whole_source_is_held : WholeSourceIsHeld
 whole_source_is_held input bytes end_whole =
-    let none = no_fault input (verdict_sorted bytes) (sym (whole_refusal input bytes) ∙ end_whole) in
+    let none = unnamed input (verdict_sorted bytes) (sym (whole_refusal input bytes) ∙ end_whole) in
     let us = file_units bytes in
     let same : from_list {R = version_cmp} (versions_of us.list) ≡ from_list (sorted_source input (all_of bytes)).list =
     sym (set_listed (from_list (versions_of us.list)))
@@ -176,16 +172,6 @@ whole_source_is_held input bytes end_whole =
     subst (HoldsSorted bytes) same (sorted_file bytes (versions_of us.list) none refl)
 
 -- ---- an error after the bytes
-pub broken_units : (bytes : List ℕ) → length bytes < 2 ^ 62 →
-    units_from None 0 (broken_after bytes) ≡ units (Some (verdict_at (length bytes) ReadFault)) (start_of bytes) 0 bytes
-unfolding units_from length_limit
-broken_units bytes short =
-    let long : 0 + length bytes ≡ length bytes = omega arith in
-    (λ i. units (cond (nat_lt (long i) (2 ^ 62)) (Some (verdict_at (long i) ReadFault)) (Some too_long_verdict)) (start_of bytes) 0
-    (cond (nat_lt (long i) (2 ^ 62)) bytes (take (2 ^ 62 - 1 - 0) bytes)))
-    ∙ ap (λ t. units (cond t (Some (verdict_at (length bytes) ReadFault)) (Some too_long_verdict)) (start_of bytes) 0
-    (cond t bytes (take (2 ^ 62 - 1 - 0) bytes))) (lt-ltb (length bytes) (2 ^ 62) short)
-
 -- A source whose input fails ends with the verdict of its whole units, or ReadFault.
 pub broken_source_ends : BrokenSourceEnds
 broken_source_ends input bytes short =

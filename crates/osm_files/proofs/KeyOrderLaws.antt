@@ -261,24 +261,24 @@ module _ (window : List ℕ) (before : Option Key) (read : ℕ) (last : Option K
             (line_rises last next (take size rest) line.end line.ends line.one step));
       }
 
-  module _ (lines : RisingLines) (is : lines.last ≡ before) (place : ℕ) (there : place ≡ lines.end + read) where
-    here : lines_to window lines place ≡ take read window
+  module _ (lines : RisingLines) (is : lines.last ≡ before) (offset : ℕ) (there : offset ≡ lines.end + read) where
+    here : lines_to window lines offset ≡ take read window
     here = ap (λ n. take n window) (omega (arith, there))
 
-    falls_there : (lines.end ≤ place) × (place ≤ lines.end + length window)
-        × ((after : Option Key) × Rise lines.last (lines_to window lines place) after)
+    falls_there : (lines.end ≤ offset) × (offset ≤ lines.end + length window)
+        × ((after : Option Key) × Rise lines.last (lines_to window lines offset) after)
     falls_there = (
       omega (arith, there),
       omega (arith, there, done.within),
       (
         last,
-        subst (λ b. Rise b (lines_to window lines place) last) (sym is) (subst (λ xs. Rise before xs last) (sym here) done.rise),
+        subst (λ b. Rise b (lines_to window lines offset) last) (sym is) (subst (λ xs. Rise before xs last) (sym here) done.rise),
       ),
     )
 
     -- The reading stops at a line.
     pub stops_at : (is_last : Bool) (size : ℕ) (why : Stop) → position is_line_end rest ≡ Some size
-        → StepsOver last (take size rest) (Err why) → StopsIn window lines is_last place why
+        → StepsOver last (take size rest) (Err why) → StopsIn window lines is_last offset why
     stops_at is_last size Falls found step = falls_there
     stops_at is_last size (Refused reason) found (inl memory) = inl memory
     stops_at is_last size (Refused reason) found (inr nothing) = inr (λ more only.
@@ -295,11 +295,11 @@ module _ (window : List ℕ) (before : Option Key) (read : ℕ) (last : Option K
       one_rest : IsOneLine rest
       one_rest = split_nowhere is_line_end rest none
 
-      to_end : (end : ℕ) → end ≡ place + length rest → lines_to window lines end ≡ window
+      to_end : (end : ℕ) → end ≡ offset + length rest → lines_to window lines end ≡ window
       to_end end e = take_all (end - lines.end) window (omega (arith, e, there, rest_long, done.within))
 
       -- the last line lacks its end
-      all_rise : (end : ℕ) (after : Option Key) → end ≡ place + length rest → StepsOver last rest (Ok after)
+      all_rise : (end : ℕ) (after : Option Key) → end ≡ offset + length rest → StepsOver last rest (Ok after)
           → Rise lines.last (lines_to window lines end) after
       all_rise end after far step =
           subst (λ xs. Rise lines.last xs after) (sym (to_end end far))
@@ -307,7 +307,7 @@ module _ (window : List ℕ) (before : Option Key) (read : ℕ) (last : Option K
           (subst (λ xs. Rise before xs after) (sym parts)
           (rise_both before last after (take read window) rest done.ends done.rise (last_rises last after rest one_rest step))))
 
-      stops_last : (end : ℕ) (why : Stop) → end ≡ place → StepsOver last rest (Err why) → StopsIn window lines true end why
+      stops_last : (end : ℕ) (why : Stop) → end ≡ offset → StepsOver last rest (Err why) → StopsIn window lines true end why
       stops_last end Falls e step = subst (λ p. StopsIn window lines true p Falls) (sym e) falls_there
       stops_last end (Refused reason) e (inl memory) = inl memory
       stops_last end (Refused reason) e (inr nothing) = inr (λ more only.
@@ -316,31 +316,31 @@ module _ (window : List ℕ) (before : Option Key) (read : ℕ) (last : Option K
 
       -- The rest of the window has no line end.
       pub ends_there : (is_last : Bool) (result : Result RisingLines StopAt)
-          → EndsLines rest (record { end = place; last = last }) is_last result → ReadsLines window lines is_last result
+          → EndsLines rest (record { end = offset; last = last }) is_last result → ReadsLines window lines is_last result
       ends_there false result same = subst (ReadsLines window lines false) (sym same) (
-        subst (λ b. Rise b (lines_to window lines place) last) (sym is) (subst (λ xs. Rise before xs last) (sym here) done.rise),
+        subst (λ b. Rise b (lines_to window lines offset) last) (sym is) (subst (λ xs. Rise before xs last) (sym here) done.rise),
         λ more. subst EndsLine (sym here) done.ends,
       )
       ends_there true (Ok found) (far, step) = (
         all_rise found.end found.last far step,
         λ more. absurd (false≢true (sym more)),
       )
-      ends_there true (Err stop) (at, step) = stops_last stop.place stop.why at step
+      ends_there true (Err stop) (at, step) = stops_last stop.offset stop.why at step
 
 -- ---- the bytes of a window
 -- More bytes of the window came.
-pub came_on : (known : Option (List ℕ)) (place filled more : ℕ) (before after : List ℕ) → length before ≡ filled
-    → AreAt known place before → CameAt known (place + filled) before after more → AreAt known place after
-came_on known place filled more before after long at (came, there, is, size) =
-    let same : place + filled ≡ place + length before = omega (arith, long) in
-    subst (AreAt known place) (sym is) (joined_at known place before came at (subst (λ n. AreAt known n came) same there))
+pub came_on : (known : Option (List ℕ)) (offset filled more : ℕ) (before after : List ℕ) → length before ≡ filled
+    → AreAt known offset before → CameAt known (offset + filled) before after more → AreAt known offset after
+came_on known offset filled more before after long at (came, there, is, size) =
+    let same : offset + filled ≡ offset + length before = omega (arith, long) in
+    subst (AreAt known offset) (sym is) (joined_at known offset before came at (subst (λ n. AreAt known n came) same there))
 
 -- A file that has the bytes of a window doesn't end before them.
-pub not_short : (Fails : Type 0) (known : Option (List ℕ)) (place filled count : ℕ) (fault : Fault) → filled < count
-    → AreLast known (place + filled) [] → IfSome known (λ all. place + count ≤ length all → IsReadFailure Fails fault)
-not_short Fails None place filled count fault less last = tt
-not_short Fails (Some all) place filled count fault less last =
-    λ fits. absurd (omega (arith, ap length last, length-drop (place + filled) all, fits, less))
+pub not_short : (Fails : Type 0) (known : Option (List ℕ)) (offset filled count : ℕ) (fault : Fault) → filled < count
+    → AreLast known (offset + filled) [] → IfSome known (λ all. offset + count ≤ length all → IsReadFailure Fails fault)
+not_short Fails None offset filled count fault less last = tt
+not_short Fails (Some all) offset filled count fault less last =
+    λ fits. absurd (omega (arith, ap length last, length-drop (offset + filled) all, fits, less))
 
 -- A read failed.
 pub not_read : (Fails : Type 0) (known : Option (List ℕ)) (size : ℕ) (fault : Fault) → Fails → fault.reason ≡ ReadFault
@@ -377,12 +377,12 @@ between_both all start middle end low high =
     (drop-drop (middle - start) start all ∙ ap (λ n. drop n all) back)
 
 -- The bytes of a file from a window on.
-pub window_between : (all : List ℕ) (place end : ℕ) (window : List ℕ) (at : AreAt (Some all) place window) → place + length window ≤ end
-    → bytes_between all place end ≡ window ++ take (end - (place + length window)) at.0
-window_between all place end window at fits =
-    let n : ℕ = end - (place + length window) in
-    let left : end - place ≡ length window + n = omega (arith, fits) in
-    ap (take (end - place)) at.1 ∙ ap (λ k. take k (window ++ at.0)) left ∙ take-append-add window at.0 n
+pub window_between : (all : List ℕ) (offset end : ℕ) (window : List ℕ) (at : AreAt (Some all) offset window) → offset + length window ≤ end
+    → bytes_between all offset end ≡ window ++ take (end - (offset + length window)) at.0
+window_between all offset end window at fits =
+    let n : ℕ = end - (offset + length window) in
+    let left : end - offset ≡ length window + n = omega (arith, fits) in
+    ap (take (end - offset)) at.1 ∙ ap (λ k. take k (window ++ at.0)) left ∙ take-append-add window at.0 n
 
 -- a window of a file: these bytes follow `lines`
 module _ (all : List ℕ) (start end : ℕ) (lines : RisingLines) (window : List ℕ) (at : AreAt (Some all) lines.end window)
@@ -392,18 +392,18 @@ module _ (all : List ℕ) (start end : ℕ) (lines : RisingLines) (window : List
   front_ends = risen.ends less
 
   -- the lines up to an offset in the window
-  lines_in : (place : ℕ) → lines.end ≤ place → place ≤ lines.end + length window
-      → bytes_between all start place ≡ bytes_between all start lines.end ++ lines_to window lines place
-  lines_in place low high =
-      between_both all start lines.end place after_start low
+  lines_in : (offset : ℕ) → lines.end ≤ offset → offset ≤ lines.end + length window
+      → bytes_between all start offset ≡ bytes_between all start lines.end ++ lines_to window lines offset
+  lines_in offset low high =
+      between_both all start lines.end offset after_start low
       ∙ ap (λ xs. bytes_between all start lines.end ++ xs)
-      (ap (take (place - lines.end)) at.1 ∙ take-append-le (place - lines.end) window at.0 (omega (arith, high)))
+      (ap (take (offset - lines.end)) at.1 ∙ take-append-le (offset - lines.end) window at.0 (omega (arith, high)))
 
-  rise_in : (place : ℕ) (after : Option Key) → lines.end ≤ place → place ≤ lines.end + length window
-      → Rise lines.last (lines_to window lines place) after → Rise None (bytes_between all start place) after
-  rise_in place after low high rise =
-      subst (λ xs. Rise None xs after) (sym (lines_in place low high))
-      (rise_both None lines.last after (bytes_between all start lines.end) (lines_to window lines place) front_ends risen.rise rise)
+  rise_in : (offset : ℕ) (after : Option Key) → lines.end ≤ offset → offset ≤ lines.end + length window
+      → Rise lines.last (lines_to window lines offset) after → Rise None (bytes_between all start offset) after
+  rise_in offset after low high rise =
+      subst (λ xs. Rise None xs after) (sym (lines_in offset low high))
+      (rise_both None lines.last after (bytes_between all start lines.end) (lines_to window lines offset) front_ends risen.rise rise)
 
   -- More lines rise.
   pub rises_on : (is_last : Bool) (read : RisingLines) → (is_last ≡ true → lines.end + length window ≡ end)
@@ -429,13 +429,13 @@ module _ (all : List ℕ) (start end : ℕ) (lines : RisingLines) (window : List
       ∙ ap (λ xs. bytes_between all start lines.end ++ xs) (window_between all lines.end end window at fits)
 
   -- A stop in the window is the result of the search.
-  pub stops_search : (Fails : Type 0) (input : ℕ) (is_last : Bool) (place : ℕ) (why : Stop)
-      → (is_last ≡ true → lines.end + length window ≡ end) → StopsIn window lines is_last place why
-      → IsOrderOfLines Fails all start end (outcome_at input place why)
-  stops_search Fails input is_last place Falls all_there (low, high, (after, rise)) = (after, rise_in place after low high rise)
-  stops_search Fails input is_last place (Refused reason) all_there (inl memory) =
-      subst (λ (r : OplReason). IsOrderOfLines Fails all start end (outcome_at input place (Refused r))) (sym memory) (inl (inl refl))
-  stops_search Fails input is_last place (Refused reason) all_there (inr never) =
+  pub stops_search : (Fails : Type 0) (input : ℕ) (is_last : Bool) (offset : ℕ) (why : Stop)
+      → (is_last ≡ true → lines.end + length window ≡ end) → StopsIn window lines is_last offset why
+      → IsOrderOfLines Fails all start end (outcome_at input offset why)
+  stops_search Fails input is_last offset Falls all_there (low, high, (after, rise)) = (after, rise_in offset after low high rise)
+  stops_search Fails input is_last offset (Refused reason) all_there (inl memory) =
+      subst (λ (r : OplReason). IsOrderOfLines Fails all start end (outcome_at input offset (Refused r))) (sym memory) (inl (inl refl))
+  stops_search Fails input is_last offset (Refused reason) all_there (inr never) =
       inr (subst IsNoFile (sym whole_lines)
       (no_file_after (bytes_between all start lines.end) (window ++ rest_of) front_ends
       (never rest_of (λ last.
@@ -462,7 +462,7 @@ module _ (start end : ℕ) (lines : RisingLines) (window : List ℕ) (is_last : 
       → IfSome known (λ all. end ≤ length all → IsOrderOfLines Fails all start end (outcome_of input stop))
   window_stops Fails input None stop at risen reads = tt
   window_stops Fails input (Some all) stop at risen reads = λ long.
-      stops_search all start end lines window at after_start less fits risen Fails input is_last stop.place stop.why all_there reads
+      stops_search all start end lines window at after_start less fits risen Fails input is_last stop.offset stop.why all_there reads
 
 -- All lines rise.
 pub all_risen : (known : Option (List ℕ)) (start end : ℕ) (lines : RisingLines) → lines.end - start ≡ end - start

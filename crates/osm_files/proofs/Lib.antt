@@ -9,11 +9,11 @@ mod StepLaws
 mod StayLaws
 mod BufferLaws
 mod FillLaws
-mod PositionLaws
+pub mod PositionLaws
 mod ReadingLaws
 mod ReaderLaws
 mod GivenLaws
-mod GroupLaws
+pub mod GroupLaws
 pub mod LoadLaws
 pub mod LoadFaults
 mod LoadFormats
@@ -21,7 +21,7 @@ pub mod RiseLaws
 mod SourceSteps
 pub mod HoldLaws
 pub mod FaultyLaws
-mod PlaceLaws
+mod OffsetLaws
 pub mod RefusedLaws
 pub mod FirstFaultLaws
 pub mod SpellSteps

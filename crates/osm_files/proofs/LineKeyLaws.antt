@@ -29,12 +29,10 @@ use Rattle.opl_line.specs.Spells.{is_full, fields_of_parts, Spells}
 use Rattle.opl_line.proofs.ContentLaws.{all_weaker}
 use Rattle.opl_line.proofs.CutLaws.{cut_split, split_front, split_never}
 use Rattle.opl_line.proofs.SpellsLaws.{object_read, one_reading}
+use Rattle.o5_codec.proofs.WrittenLists.{heads}
 use Rattle.osm_files.specs.LineKey.{IsKeyOf, BeginsWithNumeral, BeginsWithId, is_field_end}
 
 -- ---- the version number
-first_byte : (a b : ℕ) (xs ys : List ℕ) → a ∷ xs ≡ b ∷ ys → a ≡ b
-first_byte a b xs ys e = ap (λ l. get_or l 0 0) e
-
 -- a field that begins with `v` and a numeral is the version number
 number_part : (k : Kind) (digits : List ℕ) (n : ℕ) (p : LinePart) → SpellsNumeral digits n → SpellsPart k (118 ∷ digits) p
     → p ≡ part.Number n
@@ -42,16 +40,16 @@ number_part k digits n (part.Number m) spelled s =
     let same : digits ≡ s.content = ap (drop 1) s.lettered in
     let value : m ≡ n = sym s.spelled.digits_spell.value ∙ ap decimal_value (sym same) ∙ spelled.value in
     ap part.Number value
-number_part k digits n (part.Deleted d) spelled s = absurd (let f = first_byte 118 100 _ _ s.lettered in omega (arith, f))
-number_part k digits n (part.Changeset m) spelled s = absurd (let f = first_byte 118 99 _ _ s.lettered in omega (arith, f))
-number_part k digits n (part.Time t) spelled s = absurd (let f = first_byte 118 116 _ _ s.lettered in omega (arith, f))
-number_part k digits n (part.UserId m) spelled s = absurd (let f = first_byte 118 105 _ _ s.lettered in omega (arith, f))
-number_part k digits n (part.User t) spelled s = absurd (let f = first_byte 118 117 _ _ s.lettered in omega (arith, f))
-number_part k digits n (part.Tags ts) spelled s = absurd (let f = first_byte 118 84 _ _ s.lettered in omega (arith, f))
-number_part k digits n (part.Longitude x) spelled s = absurd (let f = first_byte 118 120 _ _ s.lettered in omega (arith, f))
-number_part k digits n (part.Latitude y) spelled s = absurd (let f = first_byte 118 121 _ _ s.lettered in omega (arith, f))
-number_part k digits n (part.References ids) spelled s = absurd (let f = first_byte 118 78 _ _ s.lettered in omega (arith, f))
-number_part k digits n (part.Members ms) spelled s = absurd (let f = first_byte 118 77 _ _ s.lettered in omega (arith, f))
+number_part k digits n (part.Deleted d) spelled s = absurd (let f = heads 118 100 _ _ s.lettered in omega (arith, f))
+number_part k digits n (part.Changeset m) spelled s = absurd (let f = heads 118 99 _ _ s.lettered in omega (arith, f))
+number_part k digits n (part.Time t) spelled s = absurd (let f = heads 118 116 _ _ s.lettered in omega (arith, f))
+number_part k digits n (part.UserId m) spelled s = absurd (let f = heads 118 105 _ _ s.lettered in omega (arith, f))
+number_part k digits n (part.User t) spelled s = absurd (let f = heads 118 117 _ _ s.lettered in omega (arith, f))
+number_part k digits n (part.Tags ts) spelled s = absurd (let f = heads 118 84 _ _ s.lettered in omega (arith, f))
+number_part k digits n (part.Longitude x) spelled s = absurd (let f = heads 118 120 _ _ s.lettered in omega (arith, f))
+number_part k digits n (part.Latitude y) spelled s = absurd (let f = heads 118 121 _ _ s.lettered in omega (arith, f))
+number_part k digits n (part.References ids) spelled s = absurd (let f = heads 118 78 _ _ s.lettered in omega (arith, f))
+number_part k digits n (part.Members ms) spelled s = absurd (let f = heads 118 77 _ _ s.lettered in omega (arith, f))
 
 -- a part with another letter keeps the version number
 keeps : (p : LinePart) (fields : _) → nat_eq 118 (letter_of p) ≡ false → (with_part fields p).number ≡ fields.number

@@ -4,10 +4,10 @@ use Rattle.std.proofs.Common.{drop, refl, sym, ap, ◌∙◌, arith, Option, Som
 use Rattle.std.proofs.lemmas.List.{drop-drop}
 use Rattle.std.specs.Prelude.{position, IfSome}
 use Rattle.std.specs.List.{position_or_len}
+use Rattle.std.proofs.CharBoundary.{drop_past_prefix}
 use Rattle.opl_line.specs.Delimiter.{is_line_end}
 use Rattle.osm_files.specs.Lines.{after_line, lines_from, line_size, line_start_from, BeginsLine, IsLineStart}
 use Rattle.osm_files.specs.ReadAt.{AreAt, AreLast}
-use Rattle.osm_files.proofs.ExtentLaws.{after_front}
 use Rattle.osm_files.proofs.SearchLaws.{nowhere, somewhere}
 
 -- ---- the size of a line
@@ -170,9 +170,9 @@ one_start offset later all low late =
     ap (λ n. line_start_from n all) (sym e) ∙ same_on (later - offset) offset all (omega (arith, low, late))
 
 -- ---- the search
--- the first line from `offset` on begins after the first end of a line at `place` or after it, if the file's bytes are known
+-- the first line from `offset` on begins after the first end of a line at `reached` or after it, if the file's bytes are known
 abbrev pub Scanned : Option (List ℕ) → ℕ → ℕ → Type 0
-Scanned bytes offset place = IfSome bytes (λ all. line_start_from offset all ≡ place + line_size (drop place all))
+Scanned bytes offset reached = IfSome bytes (λ all. line_start_from offset all ≡ reached + line_size (drop reached all))
 
 pub scanned_nothing : (bytes : Option (List ℕ)) (offset : ℕ) → 0 < offset → Scanned bytes offset (offset - 1)
 scanned_nothing None offset some = tt
@@ -180,36 +180,36 @@ scanned_nothing (Some all) zero some = absurd (omega (arith, some))
 scanned_nothing (Some all) (suc n) some = let e : suc n - 1 ≡ n = omega arith in rw e refl
 
 -- A search that reads bytes without an end of a line continues after these bytes.
-pub scans_on : (bytes : Option (List ℕ)) (offset place later : ℕ) (read : List ℕ) → Scanned bytes offset place → AreAt bytes place read
-    → position is_line_end read ≡ None → later ≡ place + length read → Scanned bytes offset later
-scans_on None offset place later read so_far at none is = tt
-scans_on (Some all) offset place later read so_far (rest, at) none is =
+pub scans_on : (bytes : Option (List ℕ)) (offset reached later : ℕ) (read : List ℕ) → Scanned bytes offset reached
+    → AreAt bytes reached read → position is_line_end read ≡ None → later ≡ reached + length read → Scanned bytes offset later
+scans_on None offset reached later read so_far at none is = tt
+scans_on (Some all) offset reached later read so_far (rest, at) none is =
     let size = ap line_size at ∙ size_len read rest (nowhere is_line_end read none) in
-    let further = ap line_size (after_front all read rest place at) in
+    let further = ap line_size (drop_past_prefix all read rest reached at) in
     rw is (omega (arith, so_far, size, further))
 
 -- A search that reads an end of a line finds the line that begins after it.
-pub scan_finds : (bytes : Option (List ℕ)) (offset end place start : ℕ) (read : List ℕ) (last : ℕ) → Scanned bytes offset place
-    → AreAt bytes place read → position is_line_end read ≡ Some last → start ≡ place + (last + 1) → length read ≤ end - place
+pub scan_finds : (bytes : Option (List ℕ)) (offset end reached start : ℕ) (read : List ℕ) (last : ℕ) → Scanned bytes offset reached
+    → AreAt bytes reached read → position is_line_end read ≡ Some last → start ≡ reached + (last + 1) → length read ≤ end - reached
     → IsLineStart bytes offset end start
-scan_finds None offset end place start read last so_far at found is few = tt
-scan_finds (Some all) offset end place start read last so_far (rest, at) found is few =
+scan_finds None offset end reached start read last so_far at found is few = tt
+scan_finds (Some all) offset end reached start read last so_far (rest, at) found is few =
     let line = somewhere is_line_end read last found in
     let near = line.1 in
     let size = ap line_size at ∙ size_at read rest last line.0 line.1 in
     omega (arith, is, size, so_far, near, few)
 
 -- A search that comes to its end finds no line before that.
-pub scan_stops : (bytes : Option (List ℕ)) (offset end place : ℕ) → Scanned bytes offset place → end ≤ place
+pub scan_stops : (bytes : Option (List ℕ)) (offset end reached : ℕ) → Scanned bytes offset reached → end ≤ reached
     → IsLineStart bytes offset end end
-scan_stops None offset end place so_far over = tt
-scan_stops (Some all) offset end place so_far over = omega (arith, so_far, over)
+scan_stops None offset end reached so_far over = tt
+scan_stops (Some all) offset end reached so_far over = omega (arith, so_far, over)
 
 -- After the last byte no line begins.
-pub scan_ends : (bytes : Option (List ℕ)) (offset end place : ℕ) → Scanned bytes offset place → AreLast bytes place [] → place < end
-    → IsLineStart bytes offset end place
-scan_ends None offset end place so_far last before = tt
-scan_ends (Some all) offset end place so_far last before =
+pub scan_ends : (bytes : Option (List ℕ)) (offset end reached : ℕ) → Scanned bytes offset reached → AreLast bytes reached [] → reached < end
+    → IsLineStart bytes offset end reached
+scan_ends None offset end reached so_far last before = tt
+scan_ends (Some all) offset end reached so_far last before =
     let none = ap line_size last in omega (arith, so_far, none, before)
 
 -- the first line begins at the file's first byte

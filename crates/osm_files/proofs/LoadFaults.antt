@@ -4,6 +4,7 @@ use Rattle.std.proofs.Common.{◌∷◌, ◌++◌, length, drop, take, refl, sym
 use Rattle.std.proofs.Common.{Result, Ok, Err, length-append, length-drop, nat_lt, nat_le}
 use Rattle.std.proofs.lemmas.Bool.{false≢true, ltb-true, ltb-false, lt-ltb}
 use Rattle.std.proofs.lemmas.List.{drop-append-le}
+use Rattle.std.proofs.lemmas.Option.{MatchOption-at_some}
 use Rattle.osm_model.specs.declared.kind.Kind.{Kind}
 use Rattle.osm_model.specs.declared.kind.Kind.TheVariants as kind
 use Rattle.osm_model.specs.Data.{VersionData}
@@ -32,14 +33,14 @@ use Rattle.osm_files.specs.Units.{FileStateData, InOpl, BeforeHeader, InSegment,
 use Rattle.osm_files.specs.Units.{line_found, line_unit}
 use Rattle.osm_files.specs.Units.{is_header, set_found, content_found, sized_unit, is_ended, length_at, unit_at, last_at, found_then}
 use Rattle.osm_files.specs.Units.{final_units, unit_then, units_within, units, start_of}
-use Rattle.osm_files.specs.Verdict.{length_limit, too_long_verdict, file_units, verdict, is_below, sorted_verdict, verdict_sorted}
+use Rattle.osm_files.specs.Verdict.{length_limit, too_long_verdict, file_units, verdict, is_below, sorted_verdict}
 use Rattle.osm_files.specs.Position.{units_from, fault_of}
 use Rattle.osm_files.specs.LoadLaws.{InputsAreFiles, IsFaultyWhole, NoneFaultyWhole, broken_after, BrokenInputsAreRefused}
 use Rattle.osm_files.specs.LoadLaws.{is_verdict_reason, ReasonsOfVerdicts}
 use Rattle.osm_files.proofs.FileLaws.{short_units}
 use Rattle.osm_files.proofs.StepLaws.{unit_sized}
 use Rattle.osm_files.proofs.StayLaws.{unit_stays}
-use Rattle.osm_files.proofs.PositionLaws.{from_is, known, none_in_nothing}
+use Rattle.osm_files.proofs.PositionLaws.{from_is, none_in_nothing, limit_is}
 use Rattle.osm_files.proofs.LoadLaws.{whole_units}
 
 -- An input that ends has the units of its bytes, and their verdict as its refusal.
@@ -51,41 +52,41 @@ inputs_are_files input bytes = (
 
 -- ---- the whole units in bytes that a verdict closes
 abbrev Faulty : ℕ → FileStateData → ℕ → List ℕ → Verdict → Type 0
-Faulty n stage place bytes v = (close : Verdict) → (units_within n (Some close) stage place bytes).refusal ≡ Some v
+Faulty n stage offset bytes v = (close : Verdict) → (units_within n (Some close) stage offset bytes).refusal ≡ Some v
 
 abbrev Fine : ℕ → FileStateData → ℕ → List ℕ → Type 0
-Fine n stage place bytes = (close : Verdict) → (units_within n (Some close) stage place bytes).refusal ≡ Some close
+Fine n stage offset bytes = (close : Verdict) → (units_within n (Some close) stage offset bytes).refusal ≡ Some close
 
 -- a whole unit is faulty, whatever closes the bytes, or none is
 abbrev UnitDecides : ℕ → FileStateData → ℕ → List ℕ → Type 0
-UnitDecides n stage place bytes = ((v : Verdict) × Faulty n stage place bytes v ×
-    ((units_within n None stage place bytes).refusal ≡ Some v))
-    ⊎ Fine n stage place bytes
+UnitDecides n stage offset bytes = ((v : Verdict) × Faulty n stage offset bytes v ×
+    ((units_within n None stage offset bytes).refusal ≡ Some v))
+    ⊎ Fine n stage offset bytes
 
-found_decides : (n place at : ℕ) (rest : List ℕ) (found : UnitResult) → ((next : FileStateData) → UnitDecides n next at rest)
-    → ((v : Verdict) × ((close : Verdict) → (found_then place found (λ next. units_within n (Some close) next at rest)).refusal ≡ Some v)
-    × ((found_then place found (λ next. units_within n None next at rest)).refusal ≡ Some v))
-    ⊎ ((close : Verdict) → (found_then place found (λ next. units_within n (Some close) next at rest)).refusal ≡ Some close)
-found_decides n place at rest (Err reason) on = inl (verdict_at place reason, λ close. refl, refl)
-found_decides n place at rest (Ok (None, next)) on = on next
-found_decides n place at rest (Ok (Some v, next)) on = on next
+found_decides : (n offset at : ℕ) (rest : List ℕ) (found : UnitResult) → ((next : FileStateData) → UnitDecides n next at rest)
+    → ((v : Verdict) × ((close : Verdict) → (found_then offset found (λ next. units_within n (Some close) next at rest)).refusal ≡ Some v)
+    × ((found_then offset found (λ next. units_within n None next at rest)).refusal ≡ Some v))
+    ⊎ ((close : Verdict) → (found_then offset found (λ next. units_within n (Some close) next at rest)).refusal ≡ Some close)
+found_decides n offset at rest (Err reason) on = inl (verdict_at offset reason, λ close. refl, refl)
+found_decides n offset at rest (Ok (None, next)) on = on next
+found_decides n offset at rest (Ok (Some v, next)) on = on next
 
 abbrev ThenDecides : ℕ → FileStateData → ℕ → List ℕ → Option FileUnit → Type 0
-ThenDecides n stage place bytes u =
-    ((v : Verdict) × ((close : Verdict) → (unit_then (Some close) stage place bytes (units_within n (Some close)) u).refusal ≡ Some v)
-    × ((unit_then None stage place bytes (units_within n None) u).refusal ≡ Some v))
-    ⊎ ((close : Verdict) → (unit_then (Some close) stage place bytes (units_within n (Some close)) u).refusal ≡ Some close)
+ThenDecides n stage offset bytes u =
+    ((v : Verdict) × ((close : Verdict) → (unit_then (Some close) stage offset bytes (units_within n (Some close)) u).refusal ≡ Some v)
+    × ((unit_then None stage offset bytes (units_within n None) u).refusal ≡ Some v))
+    ⊎ ((close : Verdict) → (unit_then (Some close) stage offset bytes (units_within n (Some close)) u).refusal ≡ Some close)
 
-unit_decides : (n : ℕ) (stage : FileStateData) (place : ℕ) (bytes : List ℕ) →
+unit_decides : (n : ℕ) (stage : FileStateData) (offset : ℕ) (bytes : List ℕ) →
     ((next : FileStateData) (at : ℕ) (rest : List ℕ) → UnitDecides n next at rest) →
-    (u : Option FileUnit) → ThenDecides n stage place bytes u
-unit_decides n stage place bytes on None = inr (λ close. refl)
-unit_decides n stage place bytes on (Some u) = found_decides n place (place + u.size) (drop u.size bytes) u.found
-    (λ next. on next (place + u.size) (drop u.size bytes))
+    (u : Option FileUnit) → ThenDecides n stage offset bytes u
+unit_decides n stage offset bytes on None = inr (λ close. refl)
+unit_decides n stage offset bytes on (Some u) = found_decides n offset (offset + u.size) (drop u.size bytes) u.found
+    (λ next. on next (offset + u.size) (drop u.size bytes))
 
-shown : (n : ℕ) (stage : FileStateData) (place : ℕ) (bytes : List ℕ) → UnitDecides n stage place bytes
-shown zero stage place bytes = inr (λ close. refl)
-shown (suc n) stage place bytes = unit_decides n stage place bytes (shown n) (unit_at stage bytes)
+shown : (n : ℕ) (stage : FileStateData) (offset : ℕ) (bytes : List ℕ) → UnitDecides n stage offset bytes
+shown zero stage offset bytes = inr (λ close. refl)
+shown (suc n) stage offset bytes = unit_decides n stage offset bytes (shown n) (unit_at stage bytes)
 
 whole_decides : (bytes : List ℕ) → ((v : Verdict) × IsFaultyWhole bytes v × ((units None (start_of bytes) 0 bytes).refusal ≡ Some v))
     ⊎ NoneFaultyWhole bytes
@@ -93,7 +94,7 @@ unfolding units
 whole_decides bytes = shown (length bytes) (start_of bytes) 0 bytes
 
 -- ---- an error after the bytes
-broken_units : (bytes : List ℕ) → length bytes < 2 ^ 62 →
+pub broken_units : (bytes : List ℕ) → length bytes < 2 ^ 62 →
     units_from None 0 (broken_after bytes) ≡ units (Some (verdict_at (length bytes) ReadFault)) (start_of bytes) 0 bytes
 unfolding length_limit
 broken_units bytes short =
@@ -131,10 +132,6 @@ short_refused bytes short =
     ⊎_elim (λ h. inl (h.0, short, h.1, ap refusal_of (short_units bytes short) ∙ h.2, same ∙ h.1 close))
     (λ h. inr (short, h, same ∙ h close)) (whole_decides bytes)
 
-limit_is : length_limit ≡ 2 ^ 62
-unfolding length_limit
-limit_is = refl
-
 -- An input that fails has the verdict of its whole units or of its length as its refusal, or else ReadFault.
 pub broken_inputs : BrokenInputsAreRefused
 broken_inputs bytes =
@@ -162,24 +159,24 @@ not_each v each =
     omega (arith, same)
 
 abbrev Stays : ℕ → ℕ → Option Verdict → Verdict → Type 0
-Stays n m close v = (stage : FileStateData) (place : ℕ) (bytes more : List ℕ) → length (bytes ++ more) ≤ m → Faulty n stage place bytes v →
-    (units_within m close stage place (bytes ++ more)).refusal ≡ Some v
+Stays n m close v = (stage : FileStateData) (offset : ℕ) (bytes more : List ℕ) → length (bytes ++ more) ≤ m →
+    Faulty n stage offset bytes v → (units_within m close stage offset (bytes ++ more)).refusal ≡ Some v
 
-found_stays : (n m : ℕ) (close : Option Verdict) (v : Verdict) → Stays n m close v → (place at : ℕ) (rest more : List ℕ) →
+found_stays : (n m : ℕ) (close : Option Verdict) (v : Verdict) → Stays n m close v → (offset at : ℕ) (rest more : List ℕ) →
     length (rest ++ more) ≤ m → (found : UnitResult) → ((c : Verdict) →
-    (found_then place found (λ next. units_within n (Some c) next at rest)).refusal ≡ Some v)
-    → (found_then place found (λ next. units_within m close next at (rest ++ more))).refusal ≡ Some v
-found_stays n m close v on place at rest more fits (Err reason) h = h v
-found_stays n m close v on place at rest more fits (Ok (None, next)) h = on next at rest more fits h
-found_stays n m close v on place at rest more fits (Ok (Some w, next)) h = on next at rest more fits h
+    (found_then offset found (λ next. units_within n (Some c) next at rest)).refusal ≡ Some v)
+    → (found_then offset found (λ next. units_within m close next at (rest ++ more))).refusal ≡ Some v
+found_stays n m close v on offset at rest more fits (Err reason) h = h v
+found_stays n m close v on offset at rest more fits (Ok (None, next)) h = on next at rest more fits h
+found_stays n m close v on offset at rest more fits (Ok (Some w, next)) h = on next at rest more fits h
 
 unit_then_stays : (n m : ℕ) (close : Option Verdict) (v : Verdict) → Stays n m close v →
-    (stage : FileStateData) (place : ℕ) (bytes more : List ℕ) →
+    (stage : FileStateData) (offset : ℕ) (bytes more : List ℕ) →
     length (bytes ++ more) ≤ suc m → (u : Option FileUnit) → unit_at stage bytes ≡ u
-    → ((c : Verdict) → (unit_then (Some c) stage place bytes (units_within n (Some c)) u).refusal ≡ Some v) →
-    (unit_then close stage place (bytes ++ more) (units_within m close) (unit_at stage (bytes ++ more))).refusal ≡ Some v
-unit_then_stays n m close v on stage place bytes more fits None is h = absurd (not_each v h)
-unit_then_stays n m close v on stage place bytes more fits (Some u) is h =
+    → ((c : Verdict) → (unit_then (Some c) stage offset bytes (units_within n (Some c)) u).refusal ≡ Some v) →
+    (unit_then close stage offset (bytes ++ more) (units_within m close) (unit_at stage (bytes ++ more))).refusal ≡ Some v
+unit_then_stays n m close v on stage offset bytes more fits None is h = absurd (not_each v h)
+unit_then_stays n m close v on stage offset bytes more fits (Some u) is h =
     let sized = unit_sized stage bytes u is in
     let rest : drop u.size (bytes ++ more) ≡ drop u.size bytes ++ more = drop-append-le u.size bytes more sized.within in
     let few : length (drop u.size bytes ++ more) ≤ m =
@@ -192,19 +189,19 @@ unit_then_stays n m close v on stage place bytes more fits (Some u) is h =
       sized.within,
       fits,
     ) in
-    ap (λ o. (unit_then close stage place (bytes ++ more) (units_within m close) o).refusal) (unit_stays stage bytes more u is)
-    ∙ ap (λ x. (found_then place u.found (λ next. units_within m close next (place + u.size) x)).refusal) rest
-    ∙ found_stays n m close v on place (place + u.size) (drop u.size bytes) more few u.found h
+    ap (λ o. (unit_then close stage offset (bytes ++ more) (units_within m close) o).refusal) (unit_stays stage bytes more u is)
+    ∙ ap (λ x. (found_then offset u.found (λ next. units_within m close next (offset + u.size) x)).refusal) rest
+    ∙ found_stays n m close v on offset (offset + u.size) (drop u.size bytes) more few u.found h
 
 stays : (n m : ℕ) (close : Option Verdict) (v : Verdict) → Stays n m close v
-stays zero m close v stage place bytes more fits h = absurd (not_each v h)
-stays (suc n) (suc m) close v stage place bytes more fits h =
-    unit_then_stays n m close v (stays n m close v) stage place bytes more fits (unit_at stage bytes) refl h
-stays (suc n) zero close v stage place [] [] fits h =
-    absurd (not_each v (λ c. ap (λ o. (unit_then (Some c) stage place [] (units_within n (Some c)) o).refusal) (sym (none_in_nothing stage))
-    ∙ h c))
-stays (suc n) zero close v stage place [] (b ∷ more) fits h = absurd (omega (arith, fits))
-stays (suc n) zero close v stage place (b ∷ bytes) more fits h = absurd (omega (arith, fits, length-append (b ∷ bytes) more))
+stays zero m close v stage offset bytes more fits h = absurd (not_each v h)
+stays (suc n) (suc m) close v stage offset bytes more fits h =
+    unit_then_stays n m close v (stays n m close v) stage offset bytes more fits (unit_at stage bytes) refl h
+stays (suc n) zero close v stage offset [] [] fits h =
+    absurd (not_each v (λ c. ap (λ o. (unit_then (Some c) stage offset [] (units_within n (Some c)) o).refusal)
+    (sym (none_in_nothing stage)) ∙ h c))
+stays (suc n) zero close v stage offset [] (b ∷ more) fits h = absurd (omega (arith, fits))
+stays (suc n) zero close v stage offset (b ∷ bytes) more fits h = absurd (omega (arith, fits, length-append (b ∷ bytes) more))
 
 faulty_stays : (bytes more : List ℕ) (v : Verdict) → IsFaultyWhole bytes v →
     (units None (start_of (bytes ++ more)) 0 (bytes ++ more)).refusal ≡ Some v
@@ -344,29 +341,29 @@ last_fine PastEnd bytes = tt
 abbrev FineRefusal : Option Verdict → Type 0
 FineRefusal r = IfSome r (λ v. is_verdict_reason v.reason ≡ true)
 
-found_fine : (place : ℕ) (found : UnitResult) (more : FileStateData → SourceRest Placed Verdict) → FineFound found →
-    ((next : FileStateData) → FineRefusal (more next).refusal) → FineRefusal (found_then place found more).refusal
-found_fine place (Err reason) more h on = h
-found_fine place (Ok (None, next)) more h on = on next
-found_fine place (Ok (Some v, next)) more h on = on next
+found_fine : (offset : ℕ) (found : UnitResult) (more : FileStateData → SourceRest Placed Verdict) → FineFound found →
+    ((next : FileStateData) → FineRefusal (more next).refusal) → FineRefusal (found_then offset found more).refusal
+found_fine offset (Err reason) more h on = h
+found_fine offset (Ok (None, next)) more h on = on next
+found_fine offset (Ok (Some v, next)) more h on = on next
 
-closed_fine : (close : Option Verdict) → FineRefusal close → (stage : FileStateData) (place : ℕ) (bytes : List ℕ) →
-    FineRefusal (final_units close place (last_at stage bytes)).refusal
-closed_fine None h stage place bytes = found_fine place (last_at stage bytes) (λ next. end_whole) (last_fine stage bytes) (λ next. tt)
-closed_fine (Some end) h stage place bytes = h
+closed_fine : (close : Option Verdict) → FineRefusal close → (stage : FileStateData) (offset : ℕ) (bytes : List ℕ) →
+    FineRefusal (final_units close offset (last_at stage bytes)).refusal
+closed_fine None h stage offset bytes = found_fine offset (last_at stage bytes) (λ next. end_whole) (last_fine stage bytes) (λ next. tt)
+closed_fine (Some end) h stage offset bytes = h
 
 then_fine : (n : ℕ) (close : Option Verdict) → FineRefusal close →
-    ((stage : FileStateData) (place : ℕ) (bytes : List ℕ) → FineRefusal (units_within n close stage place bytes).refusal) →
-    (stage : FileStateData) (place : ℕ) (bytes : List ℕ) (u : Option FileUnit) → FineUnit u
-    → FineRefusal (unit_then close stage place bytes (units_within n close) u).refusal
-then_fine n close h on stage place bytes None fine = closed_fine close h stage place bytes
-then_fine n close h on stage place bytes (Some u) fine =
-    found_fine place u.found _ fine (λ next. on next (place + u.size) (drop u.size bytes))
+    ((stage : FileStateData) (offset : ℕ) (bytes : List ℕ) → FineRefusal (units_within n close stage offset bytes).refusal) →
+    (stage : FileStateData) (offset : ℕ) (bytes : List ℕ) (u : Option FileUnit) → FineUnit u
+    → FineRefusal (unit_then close stage offset bytes (units_within n close) u).refusal
+then_fine n close h on stage offset bytes None fine = closed_fine close h stage offset bytes
+then_fine n close h on stage offset bytes (Some u) fine =
+    found_fine offset u.found _ fine (λ next. on next (offset + u.size) (drop u.size bytes))
 
-units_fine : (n : ℕ) (close : Option Verdict) → FineRefusal close → (stage : FileStateData) (place : ℕ) (bytes : List ℕ) →
-    FineRefusal (units_within n close stage place bytes).refusal
-units_fine zero close h stage place bytes = closed_fine close h stage place bytes
-units_fine (suc n) close h stage place bytes = then_fine n close h (units_fine n close h) stage place bytes (unit_at stage bytes)
+units_fine : (n : ℕ) (close : Option Verdict) → FineRefusal close → (stage : FileStateData) (offset : ℕ) (bytes : List ℕ) →
+    FineRefusal (units_within n close stage offset bytes).refusal
+units_fine zero close h stage offset bytes = closed_fine close h stage offset bytes
+units_fine (suc n) close h stage offset bytes = then_fine n close h (units_fine n close h) stage offset bytes (unit_at stage bytes)
     (unit_fine stage bytes)
 
 verdict_fine : (bytes : List ℕ) → FineRefusal (verdict bytes)
@@ -388,7 +385,7 @@ order_fine None h before [] = tt
 order_fine (Some end) h before [] = inr h
 order_fine close h before (unit ∷ units) =
     elim (is_below unit.version before) as (λ t. FineOrder
-    (cond t (Some (verdict_at unit.place Unsorted)) (sorted_verdict close (Some unit.version) units))) [
+    (cond t (Some (verdict_at unit.offset Unsorted)) (sorted_verdict close (Some unit.version) units))) [
       | true ↦ inl refl
       | false ↦ order_fine close h (Some unit.version) units
     ]
@@ -396,6 +393,6 @@ order_fine close h before (unit ∷ units) =
 -- A verdict is never Memory, Failed, ReadFault or WriteFault; only a verdict on order may be Unsorted.
 pub reasons_of_verdicts : ReasonsOfVerdicts
 reasons_of_verdicts bytes v = (
-  λ is. known (verdict bytes) _ v is (verdict_fine bytes),
-  λ is. known (verdict_sorted bytes) _ v is (order_fine (verdict bytes) (verdict_fine bytes) None (file_units bytes).list),
+  λ is. MatchOption-at_some _ _ v is (verdict_fine bytes),
+  λ is. MatchOption-at_some _ _ v is (order_fine (verdict bytes) (verdict_fine bytes) None (file_units bytes).list),
 )

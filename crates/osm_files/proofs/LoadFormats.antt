@@ -14,7 +14,7 @@ use Rattle.o5_codec.specs.Encoder.{initial_writer}
 use Rattle.osm_files.specs.Load.{format_of, is_o5m}
 use Rattle.osm_files.specs.LoadLaws.{WrittenFilesDetermineTheirFormat}
 
-letter_is_no_mark : (k : Kind) → kind_letter k == reset_byte ≡ false
+pub letter_is_no_mark : (k : Kind) → kind_letter k == reset_byte ≡ false
 letter_is_no_mark kind.Node = refl
 letter_is_no_mark kind.Way = refl
 letter_is_no_mark kind.Relation = refl

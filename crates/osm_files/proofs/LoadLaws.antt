@@ -8,7 +8,7 @@ use Rattle.std.proofs.lemmas.Bool.{false≢true, leb-false, lt-ltb}
 use Rattle.std.proofs.lemmas.Bool.Decides.{nat_tests}
 use Rattle.std.proofs.lemmas.List.{append-nil, get_or_append_left}
 use Rattle.std.proofs.lemmas.List.Kept.{IsSortedBy-push}
-use Rattle.std.proofs.lemmas.Option.{slice_get-get_or}
+use Rattle.std.proofs.lemmas.Option.{slice_get-get_or, MatchOption-at_some, IfSome_then, none-some}
 use Rattle.std.proofs.Math.Seq.{get_or-append_seam}
 use Rattle.osm_model.specs.Data.{VersionData}
 use Rattle.osm_model.specs.Order.{version_cmp, key_cmp}
@@ -29,10 +29,8 @@ use Rattle.osm_files.specs.Position.{KnownPosition, at_start, rest_of_bytes, uni
 use Rattle.osm_files.specs.Position.{ReadsOn, KeepsRest, state_at, state_or_start}
 use Rattle.osm_files.specs.Position.{fault_of, StopsFilling}
 use Rattle.osm_files.specs.Load.{format_of, determines_format, IsRead, Loads, StopsLoading}
-use Rattle.osm_files.proofs.UnitLaws.{some_is_not_none}
 use Rattle.osm_files.proofs.FileLaws.{one_list, accepted_without_verdict, units_closed}
-use Rattle.osm_files.proofs.FillLaws.{weaker}
-use Rattle.osm_files.proofs.PositionLaws.{from_is, known, none_in_nothing, reads_go_on, stopped}
+use Rattle.osm_files.proofs.PositionLaws.{from_is, none_in_nothing, reads_go_on, stopped}
 use Rattle.osm_files.proofs.ReadingLaws.{keeps_still, refusal_step, come_still}
 use Rattle.osm_files.proofs.GroupLaws.{step_on}
 
@@ -55,13 +53,13 @@ untold (b ∷ held) shown =
     ] refl shown
 
 -- the refusal of a file of which no more can be read, and whose format isn't determined
-pub format_refused : (p m q : KnownPosition) → ReadsOn p m → p.place ≡ 0 → p.stage ≡ None → p.failed ≡ false →
+pub format_refused : (p m q : KnownPosition) → ReadsOn p m → p.offset ≡ 0 → p.stage ≡ None → p.failed ≡ false →
     determines_format m.held ≡ false →
     (fault : Fault) → StopsFilling m fault → q.failed ≡ true → SourceStep {A = Placed} (units_or_failed p) (Err fault) (units_or_failed q)
 format_refused p m q on first unseen fine shown fault stops failed =
     let k = untold m.held shown in
     let nothing : unit_at (state_at m) m.held ≡ None = ap (λ s. unit_at (state_or_start s m.held) m.held) (on.stage ∙ unseen) ∙ k.0 in
-    let bound : m.place + length m.held < 2 ^ 62 = omega (arith, on.place, first, k.1) in
+    let bound : m.offset + length m.held < 2 ^ 62 = omega (arith, on.offset, first, k.1) in
     step_on (units_or_failed p) (units_or_failed m) (units_or_failed q) (Err fault) (keeps_still p m (reads_go_on p m on) fine)
     (refusal_step m q fault (on.failed ∙ fine) failed (stopped m nothing bound fault stops))
 
@@ -75,42 +73,41 @@ module _ (all : Option (SourceRest Placed Fault)) (versions : List VersionData) 
     (on : LoadsOn all versions now) where
   -- One more version was loaded.
   pub load_step : (u : Placed) → SourceStep now (Ok (Some u)) after → LoadsOn all (versions ++ u.version ∷ []) after
-  load_step u step = weaker all _ _ (λ s h. (
-      let k = known now _ h.0 h.1 step in (
+  load_step u step = IfSome_then all on (λ s h. (
+      let k = MatchOption-at_some _ _ h.0 h.1 step in (
         k.0,
         k.2,
         h.2 ∙ ap (λ (x : SourceRest Placed Fault). versions ++ versions_of x.list) k.1
             ∙ sym (append_assoc versions (u.version ∷ []) (versions_of (k.0).list)),
         h.3 ∙ ap (λ (x : SourceRest Placed Fault). x.refusal) k.1,
       )))
-      on
 
   -- At the end all versions were loaded.
   pub load_ends : SourceStep {A = Placed} now (Ok None) after → IfSome all (λ s. (s.refusal ≡ None) × (versions_of s.list ≡ versions))
-  load_ends step = weaker all _ _ (λ s h. (
-      let k = known now _ h.0 h.1 step.0 in (
+  load_ends step = IfSome_then all on (λ s h. (
+      let k = MatchOption-at_some _ _ h.0 h.1 step.0 in (
         h.3 ∙ ap (λ (x : SourceRest Placed Fault). x.refusal) k,
         h.2 ∙ ap (λ (x : SourceRest Placed Fault). versions ++ versions_of x.list) k
             ∙ append-nil versions,
-      ))) on
+      )))
 
   -- A unit that can't be read stops the load.
   pub load_stops : (fault : Fault) → SourceStep {A = Placed} now (Err fault) after →
       (fault ≡ memory_fault) ⊎ IfSome all (λ s. s.refusal ≡ Some fault)
   load_stops fault step = ⊎_elim (λ e. inl e) (λ k.
-      inr (weaker all _ _ (λ s h. h.3 ∙ ap (λ (x : SourceRest Placed Fault). x.refusal) (known now _ h.0 h.1 k)) on)) step.0
+      inr (IfSome_then all on (λ s h. h.3 ∙ ap (λ (x : SourceRest Placed Fault). x.refusal) (MatchOption-at_some _ _ h.0 h.1 k)))) step.0
 
 -- before any unit was passed
 pub loads_begin : (p q : KnownPosition) → KeepsRest p q → p.failed ≡ false → LoadsOn (units_or_failed p) [] (units_or_failed q)
 loads_begin p q on fine =
     subst (λ (o : Option (SourceRest Placed Fault)). LoadsOn o [] (units_or_failed q)) (sym (come_still p fine))
-    (weaker (rest_of_units p) _ _ (λ s e. (s, come_still q (on.failed ∙ fine) ∙ e, refl, refl)) on.keeps)
+    (IfSome_then (rest_of_units p) on.keeps (λ s e. (s, come_still q (on.failed ∙ fine) ∙ e, refl, refl)))
 
 -- before any unit was read
 pub stops_at_once : (now after : Option (SourceRest Placed Fault)) (fault : Fault) → SourceStep {A = Placed} now (Err fault) after →
     (fault ≡ memory_fault) ⊎ IfSome now (λ s. s.refusal ≡ Some fault)
 stops_at_once now after fault step = ⊎_elim (λ e. inl e)
-    (λ k. inr (weaker now _ _ (λ s e. ap (λ (x : SourceRest Placed Fault). x.refusal) e) k)) step.0
+    (λ k. inr (IfSome_then now k (λ s e. ap (λ (x : SourceRest Placed Fault). x.refusal) e))) step.0
 
 -- ---- whether they are sorted
 module _ (versions : List VersionData) (v : VersionData) where
@@ -196,9 +193,9 @@ unbroken c none =
       | false ↦ λ e. refl
     ] (ap (λ s. s.refusal) (sym (from_is None 0 c)) ∙ none)
 
-unnamed : (input : ℕ) (r : Option Verdict) → option_map (fault_of input) r ≡ None → r ≡ None
+pub unnamed : (input : ℕ) (r : Option Verdict) → option_map (fault_of input) r ≡ None → r ≡ None
 unnamed input None e = refl
-unnamed input (Some v) e = absurd (some_is_not_none (fault_of input v) e)
+unnamed input (Some v) e = absurd (none-some (fault_of input v) (sym e))
 
 -- the units of an input that are its versions, with no refusal
 module _ (input : ℕ) (c : InputRest) (versions : List VersionData) (none : (with_input input (units_from None 0 c)).refusal ≡ None)
@@ -253,15 +250,11 @@ module _ (input : ℕ) (c : InputRest) (versions : List VersionData) (none : (wi
     sorted = (λ t. loads_sorted (is.0 t), λ h. is.1 (sorted_loads h));
   }
 
--- an input before its first byte
-abbrev pub fresh : ℕ → Option InputRest → KnownPosition
-fresh = at_start
-
 module _ (input : ℕ) where
   -- An input that was read to its end has these versions, this format and this order.
   pub is_read : (c : InputRest) (format : Format) (versions : List VersionData) (sorted : Bool) →
-      IfSome (rest_of_bytes (fresh input (Some c))) (λ c. format ≡ format_of c.bytes) → IsTrue sorted ↔ IsSorted key_cmp versions
-      → IfSome (units_or_failed (fresh input (Some c))) (λ s. (s.refusal ≡ None) × (versions_of s.list ≡ versions)) →
+      IfSome (rest_of_bytes (at_start input (Some c))) (λ c. format ≡ format_of c.bytes) → IsTrue sorted ↔ IsSorted key_cmp versions
+      → IfSome (units_or_failed (at_start input (Some c))) (λ s. (s.refusal ≡ None) × (versions_of s.list ≡ versions)) →
       IsRead input c versions format sorted
   is_read c format versions sorted shown is all = record { unrefused = all.0; all = all.1; shown = shown; rises = is }
 
@@ -274,5 +267,5 @@ module _ (input : ℕ) where
 
   -- An input that can't be read isn't loaded.
   pub stops : (c : InputRest) (fault : Fault) → (fault ≡ memory_fault)
-      ⊎ IfSome (units_or_failed (fresh input (Some c))) (λ s. s.refusal ≡ Some fault) → StopsLoading input c fault
+      ⊎ IfSome (units_or_failed (at_start input (Some c))) (λ s. s.refusal ≡ Some fault) → StopsLoading input c fault
   stops c fault h = h

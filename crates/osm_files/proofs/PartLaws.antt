@@ -1,9 +1,9 @@
 -- The data sets of o5 files as units.
-use Rattle.std.proofs.Common.{◌≡◌, ◌⊎◌, inl, inr, ℕ, zero, suc, ◌+◌, ◌-◌, ◌≤◌, ◌<◌, Bool, true, false, cond, List, [], ◌∷◌, ◌++◌, length}
+use Rattle.std.proofs.Common.{◌≡◌, ◌⊎◌, inl, inr, ℕ, zero, suc, ◌+◌, ◌-◌, ◌≤◌, ◌<◌, true, false, cond, List, [], ◌∷◌, ◌++◌, length}
 use Rattle.std.proofs.Common.{drop, take, refl, sym, ap, ◌∙◌, subst, arith, Option, Some, None, Result, Ok, Err, length-append, length-drop}
 use Rattle.std.proofs.Common.{append_assoc, ◌==◌, nat_le}
 use Rattle.std.specs.List.{flat_map}
-use Rattle.std.proofs.lemmas.Bool.{false≢true, eqb-true, leb-true, leb-false}
+use Rattle.std.proofs.lemmas.Bool.{eqb-true, leb-true, leb-false, both_ways}
 use Rattle.osm_model.specs.Data.{VersionData}
 use Rattle.osm_model.specs.declared.kind.Kind.{Kind}
 use Rattle.osm_model.specs.declared.kind.Kind.TheVariants as kind
@@ -23,7 +23,8 @@ use Rattle.osm_files.specs.Units.{segment_unit, unit_after_end, sized_unit, cont
 use Rattle.osm_files.specs.Units.{length_at}
 use Rattle.osm_files.specs.Verdict.{versions_of}
 use Rattle.std.proofs.lemmas.Bool.Decides.{nat_tests}
-use Rattle.osm_files.proofs.UnitLaws.{ReadsAs, some_is_not_none}
+use Rattle.std.proofs.lemmas.Option.{none-some}
+use Rattle.osm_files.proofs.UnitLaws.{ReadsAs}
 use Rattle.osm_files.proofs.SizeLaws.{Sized, length_read, LengthFound, length_found, content_sized, Length, some_length, same_size}
 
 -- bytes that are parts and the end byte
@@ -137,17 +138,14 @@ through still S T f g h = record { read = λ versions t. h.read versions (f vers
 -- A refusal reads as a property that no list has.
 pub nothing_reads : (verdict : Verdict) (S : List VersionData → Type 0) → ((versions : List VersionData) → S versions → ⊥) →
     ReadsAs (end_refused verdict) S
-nothing_reads verdict S never = record { read = λ versions s. absurd (never versions s); back = λ none. absurd (some_is_not_none _ none) }
+nothing_reads verdict S never = record { read = λ versions s. absurd (never versions s); back = λ none. absurd (none-some _ (sym none)) }
 
-version_reads : (place : ℕ) (v : VersionData) (still : SourceRest Placed Verdict) (S : List VersionData → Type 0) → ReadsAs still S →
-    ReadsAs (front (new_placed place v) still) (λ versions. (others : List VersionData) × (versions ≡ v ∷ others) × S others)
-version_reads place v still S h = record {
+version_reads : (offset : ℕ) (v : VersionData) (still : SourceRest Placed Verdict) (S : List VersionData → Type 0) → ReadsAs still S →
+    ReadsAs (front (new_placed offset v) still) (λ versions. (others : List VersionData) × (versions ≡ v ∷ others) × S others)
+version_reads offset v still S h = record {
   read = λ versions t. (let r = h.read t.0 t.2 in (r.0, ap (λ x. v ∷ x) r.1 ∙ sym t.1));
   back = λ none. (versions_of still.list, refl, h.back none);
 }
-
-clash : (t : Bool) → t ≡ true → t ≡ false → ⊥
-clash t is not_so = false≢true (sym not_so ∙ is)
 
 -- the type byte of an object's data set
 abbrev pub IsObjectType : Kind → ℕ → Type 0
@@ -164,31 +162,31 @@ type_at k b is = subst (IsObjectType k) (sym is) (object_type k)
 module _ (s : Segment) (b : ℕ) (bytes : List ℕ) (versions : List VersionData) where
   pub end_only : FirstPart s b bytes versions → (b == end_byte) ≡ true → (bytes ≡ []) × ([] ≡ versions)
   end_only (inl h) e = (h.1, h.2)
-  end_only (inr (inl h)) e = absurd (clash _ e h.0)
-  end_only (inr (inr (inl h))) e = absurd (clash _ e h.0)
-  end_only (inr (inr (inr (inl h)))) e = absurd (clash _ e h.0.0)
-  end_only (inr (inr (inr (inr h)))) e = absurd (clash _ e (type_at h.0 b h.1).0)
+  end_only (inr (inl h)) e = absurd (both_ways _ h.0 e)
+  end_only (inr (inr (inl h))) e = absurd (both_ways _ h.0 e)
+  end_only (inr (inr (inr (inl h)))) e = absurd (both_ways _ h.0.0 e)
+  end_only (inr (inr (inr (inr h)))) e = absurd (both_ways _ (type_at h.0 b h.1).0 e)
 
   pub reset_only : FirstPart s b bytes versions → (b == end_byte) ≡ false → (b == reset_byte) ≡ true → PartsFile new_segment bytes versions
-  reset_only (inl h) n e = absurd (clash _ h.0 n)
+  reset_only (inl h) n e = absurd (both_ways _ n h.0)
   reset_only (inr (inl h)) n e = h.2
-  reset_only (inr (inr (inl h))) n e = absurd (clash _ e h.1)
-  reset_only (inr (inr (inr (inl h)))) n e = absurd (clash _ e h.0.1)
-  reset_only (inr (inr (inr (inr h)))) n e = absurd (clash _ e (type_at h.0 b h.1).1)
+  reset_only (inr (inr (inl h))) n e = absurd (both_ways _ h.1 e)
+  reset_only (inr (inr (inr (inl h)))) n e = absurd (both_ways _ h.0.1 e)
+  reset_only (inr (inr (inr (inr h)))) n e = absurd (both_ways _ (type_at h.0 b h.1).1 e)
 
   pub lone_only : FirstPart s b bytes versions → (b == end_byte) ≡ false → (b == reset_byte) ≡ false → is_lone b ≡ true →
       PartsFile s bytes versions
-  lone_only (inl h) n m e = absurd (clash _ h.0 n)
-  lone_only (inr (inl h)) n m e = absurd (clash _ h.1 m)
+  lone_only (inl h) n m e = absurd (both_ways _ n h.0)
+  lone_only (inr (inl h)) n m e = absurd (both_ways _ m h.1)
   lone_only (inr (inr (inl h))) n m e = h.3
-  lone_only (inr (inr (inr (inl h)))) n m e = absurd (clash _ e h.0.2)
-  lone_only (inr (inr (inr (inr h)))) n m e = absurd (clash _ e (type_at h.0 b h.1).2)
+  lone_only (inr (inr (inr (inl h)))) n m e = absurd (both_ways _ h.0.2 e)
+  lone_only (inr (inr (inr (inr h)))) n m e = absurd (both_ways _ (type_at h.0 b h.1).2 e)
 
   pub sized_only : FirstPart s b bytes versions → (b == end_byte) ≡ false → (b == reset_byte) ≡ false → is_lone b ≡ false →
       SkippedFirst s b bytes versions ⊎ ObjectFirst s b bytes versions
-  sized_only (inl h) n m e = absurd (clash _ h.0 n)
-  sized_only (inr (inl h)) n m e = absurd (clash _ h.1 m)
-  sized_only (inr (inr (inl h))) n m e = absurd (clash _ h.2 e)
+  sized_only (inl h) n m e = absurd (both_ways _ n h.0)
+  sized_only (inr (inl h)) n m e = absurd (both_ways _ m h.1)
+  sized_only (inr (inr (inl h))) n m e = absurd (both_ways _ e h.2)
   sized_only (inr (inr (inr (inl h)))) n m e = inl h
   sized_only (inr (inr (inr (inr h)))) n m e = inr h
 
@@ -199,11 +197,11 @@ module _ (s : Segment) (b : ℕ) (bytes : List ℕ) (versions : List VersionData
   pub skipped_only : SkippedFirst s b bytes versions ⊎ ObjectFirst s b bytes versions → kind_of_type b ≡ None
       → SkippedFirst s b bytes versions
   skipped_only (inl h) e = h
-  skipped_only (inr h) e = absurd (some_is_not_none h.0 (sym (type_at h.0 b h.1).3 ∙ e))
+  skipped_only (inr h) e = absurd (none-some h.0 (sym e ∙ (type_at h.0 b h.1).3))
 
   pub object_only : (k : Kind) → SkippedFirst s b bytes versions ⊎ ObjectFirst s b bytes versions → kind_of_type b ≡ Some k →
       (content rest : List ℕ) × Sized bytes content rest × RestAfter k s content rest versions
-  object_only k (inl h) e = absurd (some_is_not_none k (sym e ∙ h.0.3))
+  object_only k (inl h) e = absurd (none-some k (sym h.0.3 ∙ e))
   object_only k (inr h) e =
       let both : Some h.0 ≡ Some k = sym (type_at h.0 b h.1).3 ∙ e in
       let same : h.0 ≡ k = cc in
@@ -227,14 +225,14 @@ byte_of k b e =
             | true ↦ λ is f. let g : kind.Way ≡ k = cc in eqb-true b 17 is ∙ ap type_byte g
             | false ↦ λ is. elim (b == 18) as (λ t. (b == 18) ≡ t → cond t (Some kind.Relation) None ≡ Some k → b ≡ type_byte k) [
               | true ↦ λ is f. let g : kind.Relation ≡ k = cc in eqb-true b 18 is ∙ ap type_byte g
-              | false ↦ λ is f. absurd (some_is_not_none k (sym f))
+              | false ↦ λ is f. absurd (none-some k f)
             ] refl
           ] refl
     ] refl e
 
 abbrev pub ReadsParts : ℕ → Type 0
-ReadsParts n = (s : Segment) (bytes : List ℕ) (place : ℕ) → length bytes ≤ n →
-    ReadsAs (units_within n None (InSegment s) place bytes) (PartsFile s bytes)
+ReadsParts n = (s : Segment) (bytes : List ℕ) (offset : ℕ) → length bytes ≤ n →
+    ReadsAs (units_within n None (InSegment s) offset bytes) (PartsFile s bytes)
 
 pub last_in_set : (s : Segment) (b : ℕ) (bytes : List ℕ) → last_at (InSegment s) (b ∷ bytes) ≡ Err (O5 o5.Truncated)
 unfolding last_at
@@ -260,14 +258,14 @@ unit_after bytes = refl
 abbrev Nothing : List ℕ → List VersionData → Type 0
 Nothing bytes versions = (bytes ≡ []) × ([] ≡ versions)
 
-none_after : (n place : ℕ) → ReadsAs (units_within n None PastEnd place []) (Nothing [])
-none_after zero place = rw (last_after []) (record { read = λ versions h. (refl, h.1); back = λ none. (refl, refl) })
-none_after (suc n) place = rw (unit_after [], last_after []) (record { read = λ versions h. (refl, h.1); back = λ none. (refl, refl) })
+none_after : (n offset : ℕ) → ReadsAs (units_within n None PastEnd offset []) (Nothing [])
+none_after zero offset = rw (last_after []) (record { read = λ versions h. (refl, h.1); back = λ none. (refl, refl) })
+none_after (suc n) offset = rw (unit_after [], last_after []) (record { read = λ versions h. (refl, h.1); back = λ none. (refl, refl) })
 
-end_reads : (n place : ℕ) (bytes : List ℕ) → length bytes ≤ n → ReadsAs (units_within n None PastEnd place bytes) (Nothing bytes)
-end_reads n place [] fits = none_after n place
-end_reads zero place (b ∷ bytes) fits = absurd (omega (arith, fits))
-end_reads (suc n) place (b ∷ bytes) fits = rw (unit_after (b ∷ bytes))
+end_reads : (n offset : ℕ) (bytes : List ℕ) → length bytes ≤ n → ReadsAs (units_within n None PastEnd offset bytes) (Nothing bytes)
+end_reads n offset [] fits = none_after n offset
+end_reads zero offset (b ∷ bytes) fits = absurd (omega (arith, fits))
+end_reads (suc n) offset (b ∷ bytes) fits = rw (unit_after (b ∷ bytes))
     (nothing_reads _ (Nothing (b ∷ bytes)) (λ versions h. let e : b ∷ bytes ≡ [] = h.0 in cc))
 
 no_parts : (s : Segment) (versions : List VersionData) → PartsFile s [] versions → ⊥
@@ -275,12 +273,12 @@ no_parts s versions h =
     let e : length (flat_map part_bytes h.0 ++ end_byte ∷ []) ≡ 0 = ap length (sym h.1) in
     omega (arith, e, length-append (flat_map part_bytes h.0) (end_byte ∷ []))
 
-module _ (n : ℕ) (on : ReadsParts n) (s : Segment) (b : ℕ) (bytes : List ℕ) (place : ℕ) (fits : length bytes ≤ n) where
+module _ (n : ℕ) (on : ReadsParts n) (s : Segment) (b : ℕ) (bytes : List ℕ) (offset : ℕ) (fits : length bytes ≤ n) where
   abbrev T : List VersionData → Type 0
   T = PartsFile s (b ∷ bytes)
 
   abbrev UnitStep : Option FileUnit → Type 0
-  UnitStep u = ReadsAs (unit_then None (InSegment s) place (b ∷ bytes) (units_within n None) u) T
+  UnitStep u = ReadsAs (unit_then None (InSegment s) offset (b ∷ bytes) (units_within n None) u) T
 
   first_of : (versions : List VersionData) → T versions → FirstPart s b bytes versions
   first_of versions h = first_part s b bytes h.0 versions h.1 h.2
@@ -288,25 +286,25 @@ module _ (n : ℕ) (on : ReadsParts n) (s : Segment) (b : ℕ) (bytes : List ℕ
   end_step : (b == end_byte) ≡ true → UnitStep (Some (unit 1 (no_version PastEnd)))
   end_step is =
       let same : b ≡ end_byte = eqb-true b end_byte is in
-      through (units_within n None PastEnd (place + 1) bytes) (Nothing bytes) T
+      through (units_within n None PastEnd (offset + 1) bytes) (Nothing bytes) T
       (λ versions h. end_only s b bytes versions (first_of versions h) is)
       (λ versions h. ([], (λ i. same i ∷ h.0 i), sym h.1))
-      (end_reads n (place + 1) bytes fits)
+      (end_reads n (offset + 1) bytes fits)
 
   reset_step : (b == end_byte) ≡ false → (b == reset_byte) ≡ true → UnitStep (Some (unit 1 (no_version (InSegment new_segment))))
   reset_step not_end is =
       let same : b ≡ reset_byte = eqb-true b reset_byte is in
-      through (units_within n None (InSegment new_segment) (place + 1) bytes) (PartsFile new_segment bytes) T
+      through (units_within n None (InSegment new_segment) (offset + 1) bytes) (PartsFile new_segment bytes) T
       (λ versions h. reset_only s b bytes versions (first_of versions h) not_end is)
       (λ versions h. (Reset ∷ h.0, with_part s (b ∷ bytes) Reset bytes versions h.0 h.1 (ap (λ x. x ∷ bytes) same), h.2))
-      (on new_segment bytes (place + 1) fits)
+      (on new_segment bytes (offset + 1) fits)
 
   lone_step : (b == end_byte) ≡ false → (b == reset_byte) ≡ false → is_lone b ≡ true → UnitStep (Some (unit 1 (no_version (InSegment s))))
   lone_step not_end not_reset is =
-      through (units_within n None (InSegment s) (place + 1) bytes) (PartsFile s bytes) T
+      through (units_within n None (InSegment s) (offset + 1) bytes) (PartsFile s bytes) T
       (λ versions h. lone_only s b bytes versions (first_of versions h) not_end not_reset is)
       (λ versions h. (Lone b ∷ h.0, with_part s (b ∷ bytes) (Lone b) bytes versions h.0 h.1 refl, (is, h.2)))
-      (on s bytes (place + 1) fits)
+      (on s bytes (offset + 1) fits)
 
   sized_of : (b == end_byte) ≡ false → (b == reset_byte) ≡ false → is_lone b ≡ false → (versions : List VersionData) → T versions →
       SkippedFirst s b bytes versions ⊎ ObjectFirst s b bytes versions
@@ -336,11 +334,11 @@ module _ (n : ℕ) (on : ReadsParts n) (s : Segment) (b : ℕ) (bytes : List ℕ
     few : length rest ≤ n
     few = omega (arith, fits, length-drop m after, ap length found.split, length-append found.size after)
 
-    rest_reads : (next : Segment) → ReadsAs (units_within n None (InSegment next) (place + size) (drop size (b ∷ bytes)))
+    rest_reads : (next : Segment) → ReadsAs (units_within n None (InSegment next) (offset + size) (drop size (b ∷ bytes)))
         (PartsFile next rest)
     rest_reads next =
-        let P : List ℕ → Type 0 = λ x. ReadsAs (units_within n None (InSegment next) (place + size) x) (PartsFile next rest) in
-        subst P (sym found.rest) (on next rest (place + size) few)
+        let P : List ℕ → Type 0 = λ x. ReadsAs (units_within n None (InSegment next) (offset + size) x) (PartsFile next rest) in
+        subst P (sym found.rest) (on next rest (offset + size) few)
 
     too_short : (length after < m) → (versions : List VersionData) → T versions → ⊥
     too_short short versions h =
@@ -351,7 +349,7 @@ module _ (n : ℕ) (on : ReadsParts n) (s : Segment) (b : ℕ) (bytes : List ℕ
     skipped_step : m ≤ length after → kind_of_type b ≡ None → UnitStep (Some (unit size (no_version (InSegment s))))
     skipped_step within is =
         let other : IsOtherType b = (not_end, not_reset, not_lone, is) in
-        through (units_within n None (InSegment s) (place + size) (drop size (b ∷ bytes))) (PartsFile s rest) T
+        through (units_within n None (InSegment s) (offset + size) (drop size (b ∷ bytes))) (PartsFile s rest) T
         (λ versions h. (
         let k = skipped_only s b bytes versions (sized_of not_end not_reset not_lone versions h) is in
         let same = same_size bytes m after k.1.0 k.1.1 is_size k.1.2 in
@@ -374,7 +372,7 @@ module _ (n : ℕ) (on : ReadsParts n) (s : Segment) (b : ℕ) (bytes : List ℕ
         let o = object_of k is versions h in
         let f : Ok (o.0, o.1) ≡ Err reason = sym (set_only k s content (o.0, o.1) o.4) ∙ e in cc))
     object_step within k is is_byte (Ok (v, next)) e =
-        through (front (new_placed place v) (units_within n None (InSegment next) (place + size) (drop size (b ∷ bytes))))
+        through (front (new_placed offset v) (units_within n None (InSegment next) (offset + size) (drop size (b ∷ bytes))))
         (λ versions. (others : List VersionData) × (versions ≡ v ∷ others) × PartsFile next rest others) T
         (λ versions h. (
         let o = object_of k is versions h in
@@ -385,7 +383,7 @@ module _ (n : ℕ) (on : ReadsParts n) (s : Segment) (b : ℕ) (bytes : List ℕ
         (o.2, o.3 ∙ ap (λ x. x ∷ o.2) g.0, subst (λ (t : Segment). PartsFile t rest o.2) g.1 o.5)))
         (λ versions h. object_in_front s k b bytes content rest versions is_byte (content_sized bytes m after b within found)
         (v, next, h.0, h.1, set_found k s content (v, next) e, h.2))
-        (version_reads place v _ (PartsFile next rest) (rest_reads next))
+        (version_reads offset v _ (PartsFile next rest) (rest_reads next))
 
     content_step : m ≤ length after → (x : Option Kind) → kind_of_type b ≡ x → UnitStep (Some (unit size (content_found s x content)))
     content_step within None is = skipped_step within is
@@ -426,13 +424,13 @@ module _ (n : ℕ) (on : ReadsParts n) (s : Segment) (b : ℕ) (bytes : List ℕ
             ] refl
       ] refl
 
-none_in_segment : (s : Segment) (place : ℕ) → ReadsAs (final_units None place (last_at (InSegment s) [])) (PartsFile s [])
-none_in_segment s place = rw (last_in_segment s) (nothing_reads _ (PartsFile s []) (no_parts s))
+none_in_segment : (s : Segment) (offset : ℕ) → ReadsAs (final_units None offset (last_at (InSegment s) [])) (PartsFile s [])
+none_in_segment s offset = rw (last_in_segment s) (nothing_reads _ (PartsFile s []) (no_parts s))
 
 -- The units of an o5 file read as its parts.
 pub reads_parts : (n : ℕ) → ReadsParts n
-reads_parts zero s [] place fits = none_in_segment s place
-reads_parts zero s (b ∷ bytes) place fits = absurd (omega (arith, fits))
-reads_parts (suc n) s [] place fits = rw (unit_in_segment s []) (none_in_segment s place)
-reads_parts (suc n) s (b ∷ bytes) place fits = rw (unit_in_segment s (b ∷ bytes))
-    (first_step n (reads_parts n) s b bytes place (omega (arith, fits)))
+reads_parts zero s [] offset fits = none_in_segment s offset
+reads_parts zero s (b ∷ bytes) offset fits = absurd (omega (arith, fits))
+reads_parts (suc n) s [] offset fits = rw (unit_in_segment s []) (none_in_segment s offset)
+reads_parts (suc n) s (b ∷ bytes) offset fits = rw (unit_in_segment s (b ∷ bytes))
+    (first_step n (reads_parts n) s b bytes offset (omega (arith, fits)))

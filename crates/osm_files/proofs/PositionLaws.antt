@@ -1,11 +1,12 @@
 -- The effect on a position of passing one unit.
-use Rattle.std.proofs.Common.{◌≡◌, ◌⊎◌, inl, inr, ℕ, zero, suc, ◌+◌, ◌-◌, ◌≤◌, ◌<◌, ◌^◌, Bool, true, false, cond, List, [], ◌∷◌, ◌++◌}
-use Rattle.std.proofs.Common.{length, drop, take, refl, sym, ap, ◌∙◌, subst, arith, Option, Some, None, option_map, IfSome, Ok, Err}
+use Rattle.std.proofs.Common.{◌≡◌, ◌⊎◌, inl, inr, ℕ, suc, ◌+◌, ◌-◌, ◌≤◌, ◌<◌, ◌^◌, Bool, true, false, cond, List, [], ◌∷◌, ◌++◌}
+use Rattle.std.proofs.Common.{length, drop, take, refl, sym, ap, ◌∙◌, arith, Option, Some, None, option_map, IfSome, Ok, Err}
 use Rattle.std.proofs.Common.{length-append, length-drop, nat_lt}
-use Rattle.std.proofs.lemmas.List.{append-nil, drop-append-le}
+use Rattle.std.proofs.lemmas.List.{append-nil, drop-append-le, drop-take}
 use Rattle.std.proofs.lemmas.Bool.{lt-ltb}
 use Rattle.std.proofs.lemmas.Bool.Decides.{nat_tests}
 use Rattle.std.proofs.Math.Seq.{take-append-add}
+use Rattle.std.proofs.lemmas.Option.{IfSome_then}
 use Rattle.osm_model.specs.Data.{VersionData}
 use Rattle.osm_files.specs.declared.fault.Fault.{Fault}
 use Rattle.osm_files.specs.declared.reason.Reason.{Reason}
@@ -18,46 +19,42 @@ use Rattle.osm_files.specs.Verdict.{length_limit, too_long_verdict}
 use Rattle.osm_files.specs.Position.{KnownPosition, rest_of_bytes, state_or_start, closing_verdict, window, units_from, fault_of}
 use Rattle.osm_files.specs.Position.{with_input, rest_of_units, Keeps, ReadsOn, KeepsRest}
 use Rattle.osm_files.specs.Position.{state_at, Halts, StopsFilling}
-use Rattle.osm_files.proofs.FillLaws.{weaker, mapped, kept, keeps_on}
+use Rattle.osm_files.proofs.FillLaws.{mapped, kept, keeps_on}
 use Rattle.osm_files.proofs.StepLaws.{IsSized, unit_sized, found_same, units_step, units_stop}
 use Rattle.osm_files.proofs.StayLaws.{unit_stays}
 
-limit_is : length_limit ≡ 2 ^ 62
+pub limit_is : length_limit ≡ 2 ^ 62
 unfolding length_limit
 limit_is = refl
 
 -- The units from a position on are those of the bytes below the limit.
-pub from_is : (stage : Option FileStateData) (place : ℕ) (c : InputRest) →
-    units_from stage place c ≡ units (closing_verdict place c) (state_or_start stage c.bytes) place (window place c)
+pub from_is : (stage : Option FileStateData) (offset : ℕ) (c : InputRest) →
+    units_from stage offset c ≡ units (closing_verdict offset c) (state_or_start stage c.bytes) offset (window offset c)
 unfolding units_from
-from_is stage place c = refl
+from_is stage offset c = refl
 
 -- A position without a change goes on.
 pub goes_on : (p : KnownPosition) → KeepsRest p p
-goes_on p = record { input = refl; place = omega arith; failed = refl; keeps = kept (rest_of_units p) }
+goes_on p = record { input = refl; offset = omega arith; failed = refl; keeps = kept (rest_of_units p) }
 
 -- Going on twice is going on.
 pub goes_further : (p m q : KnownPosition) → KeepsRest p m → KeepsRest m q → KeepsRest p q
 goes_further p m q a b = record {
   input = b.input ∙ a.input;
-  place = omega (arith, a.place, b.place);
+  offset = omega (arith, a.offset, b.offset);
   failed = b.failed ∙ a.failed;
   keeps = keeps_on (rest_of_units p) (rest_of_units m) (rest_of_units q) a.keeps b.keeps;
 }
-
--- A property of an option's value is one of the value that the option is known to have.
-pub known : {A : Type 0} (o : Option A) (P : A → Type 0) (x : A) → o ≡ Some x → IfSome o P → P x
-known {A} o P x e h = let Q : Option A → Type 0 = λ v. IfSome v P in subst Q e h
 
 -- the values that a read leaves unchanged
 pub reads_go_on : (p q : KnownPosition) → ReadsOn p q → KeepsRest p q
 reads_go_on p q on = record {
   input = on.input;
-  place = omega (arith, on.place);
+  offset = omega (arith, on.offset);
   failed = on.failed;
   keeps = mapped (rest_of_bytes p) _ (λ s. rest_of_units q ≡ Some s)
-      (weaker (rest_of_bytes p) _ _ (λ c e. ap (option_map (λ x. with_input q.input (units_from q.stage q.place x))) e
-      ∙ (λ i. Some (with_input (on.input i) (units_from (on.stage i) (on.place i) c)))) on.ahead);
+      (IfSome_then (rest_of_bytes p) on.ahead (λ c e. ap (option_map (λ x. with_input q.input (units_from q.stage q.offset x))) e
+      ∙ (λ i. Some (with_input (on.input i) (units_from (on.stage i) (on.offset i) c)))));
 }
 
 -- the bytes after those held
@@ -106,62 +103,54 @@ same_state None (b ∷ held) more some = refl
 
 -- the bytes held count, and so do those after them that are below the limit
 abbrev pub Counts : ℕ → List ℕ → InputRest → Type 0
-Counts place held c = (more : List ℕ) × (window place c ≡ held ++ more)
+Counts offset held c = (more : List ℕ) × (window offset c ≡ held ++ more)
 
-counted : (place : ℕ) (held rest : List ℕ) (broken : Bool) → place + length held < 2 ^ 62 →
-    Counts place held (record { bytes = held ++ rest; broken = broken })
-counted place held rest broken bound =
-    elim (nat_lt (place + length (held ++ rest)) length_limit) as
-    (λ t. nat_lt (place + length (held ++ rest)) length_limit ≡ t →
-    (more : List ℕ) × (cond t (held ++ rest) (take (length_limit - 1 - place) (held ++ rest)) ≡ held ++ more)) [
+counted : (offset : ℕ) (held rest : List ℕ) (broken : Bool) → offset + length held < 2 ^ 62 →
+    Counts offset held (record { bytes = held ++ rest; broken = broken })
+counted offset held rest broken bound =
+    elim (nat_lt (offset + length (held ++ rest)) length_limit) as
+    (λ t. nat_lt (offset + length (held ++ rest)) length_limit ≡ t →
+    (more : List ℕ) × (cond t (held ++ rest) (take (length_limit - 1 - offset) (held ++ rest)) ≡ held ++ more)) [
       | true ↦ λ is. (rest, refl)
       | false ↦ λ is. (
-          let room : length_limit - 1 - place ≡ length held + (length_limit - 1 - place - length held) = omega (arith, limit_is, bound) in (
-            take (length_limit - 1 - place - length held) rest,
+          let room : length_limit - 1 - offset ≡ length held + (length_limit - 1 - offset - length held) =
+          omega (arith, limit_is, bound) in (
+            take (length_limit - 1 - offset - length held) rest,
             ap (λ n. take n (held ++ rest)) room
-                ∙ take-append-add held rest (length_limit - 1 - place - length held),
+                ∙ take-append-add held rest (length_limit - 1 - offset - length held),
           ))
     ] refl
 
-by_room : (m : ℕ) → [] ≡ take {A = ℕ} m []
-by_room zero = refl
-by_room (suc m) = refl
-
-drop-take-add : (n m : ℕ) (xs : List ℕ) → drop n (take (n + m) xs) ≡ take m (drop n xs)
-drop-take-add zero m xs = let e : 0 + m ≡ m = omega arith in rw e refl
-drop-take-add (suc n) m [] = let e : suc n + m ≡ suc (n + m) = omega arith in rw e (by_room m)
-drop-take-add (suc n) m (x ∷ xs) = let e : suc n + m ≡ suc (n + m) = omega arith in rw e (drop-take-add n m xs)
-
 -- at a later offset, the same bytes count, and the file closes in the same way
-module _ (place n : ℕ) (held rest : List ℕ) (broken : Bool) (fits : n ≤ length held) (bound : place + length held < 2 ^ 62) where
+module _ (offset n : ℕ) (held rest : List ℕ) (broken : Bool) (fits : n ≤ length held) (bound : offset + length held < 2 ^ 62) where
   abbrev here : InputRest
   here = record { bytes = held ++ rest; broken = broken }
 
   abbrev there : InputRest
   there = record { bytes = drop n held ++ rest; broken = broken }
 
-  same_length : (place + n) + length (drop n held ++ rest) ≡ place + length (held ++ rest)
+  same_length : (offset + n) + length (drop n held ++ rest) ≡ offset + length (held ++ rest)
   same_length = omega (arith, length-append held rest, length-append (drop n held) rest, length-drop n held, fits)
 
-  same_closing : closing_verdict (place + n) there ≡ closing_verdict place here
+  same_closing : closing_verdict (offset + n) there ≡ closing_verdict offset here
   same_closing = ap (λ m. cond (nat_lt m length_limit) (cond broken (Some (verdict_at m ReadFault)) None) (Some too_long_verdict))
       same_length
 
   drop_in : drop n (held ++ rest) ≡ drop n held ++ rest
   drop_in = drop-append-le n held rest fits
 
-  same_window : drop n (window place here) ≡ window (place + n) there
+  same_window : drop n (window offset here) ≡ window (offset + n) there
   same_window =
-      elim (nat_lt (place + length (held ++ rest)) length_limit) as
-      (λ t. nat_lt (place + length (held ++ rest)) length_limit ≡ t →
-      drop n (cond t (held ++ rest) (take (length_limit - 1 - place) (held ++ rest))) ≡ window (place + n) there) [
-        | true ↦ λ is. drop_in ∙ sym (ap (λ b. cond b (drop n held ++ rest) (take (length_limit - 1 - (place + n)) (drop n held ++ rest)))
+      elim (nat_lt (offset + length (held ++ rest)) length_limit) as
+      (λ t. nat_lt (offset + length (held ++ rest)) length_limit ≡ t →
+      drop n (cond t (held ++ rest) (take (length_limit - 1 - offset) (held ++ rest))) ≡ window (offset + n) there) [
+        | true ↦ λ is. drop_in ∙ sym (ap (λ b. cond b (drop n held ++ rest) (take (length_limit - 1 - (offset + n)) (drop n held ++ rest)))
             (ap (λ m. nat_lt m length_limit) same_length ∙ is))
         | false ↦ λ is. (
-            let room : length_limit - 1 - place ≡ n + (length_limit - 1 - (place + n)) = omega (arith, limit_is, bound, fits) in
-            ap (λ m. drop n (take m (held ++ rest))) room ∙ drop-take-add n (length_limit - 1 - (place + n)) (held ++ rest)
-            ∙ ap (take (length_limit - 1 - (place + n))) drop_in
-            ∙ sym (ap (λ b. cond b (drop n held ++ rest) (take (length_limit - 1 - (place + n)) (drop n held ++ rest)))
+            let room : length_limit - 1 - offset ≡ n + (length_limit - 1 - (offset + n)) = omega (arith, limit_is, bound, fits) in
+            ap (λ m. drop n (take m (held ++ rest))) room ∙ drop-take n (length_limit - 1 - (offset + n)) (held ++ rest)
+            ∙ ap (take (length_limit - 1 - (offset + n))) drop_in
+            ∙ sym (ap (λ b. cond b (drop n held ++ rest) (take (length_limit - 1 - (offset + n)) (drop n held ++ rest)))
             (ap (λ m. nat_lt m length_limit) same_length ∙ is)))
       ] refl
 
@@ -172,10 +161,10 @@ with_each (Some x) P f = f x refl
 
 -- after a unit of the bytes held was passed
 abbrev pub gone_over : KnownPosition → ℕ → FileStateData → KnownPosition
-gone_over m size next = record m { stage = Some next; place = m.place + size; held = drop size m.held }
+gone_over m size next = record m { stage = Some next; offset = m.offset + size; held = drop size m.held }
 
 module _ (m : KnownPosition) (u : FileUnit) (is_found : unit_at (state_at m) m.held ≡ Some u)
-    (bound : m.place + length m.held < 2 ^ 62) where
+    (bound : m.offset + length m.held < 2 ^ 62) where
   sized : IsSized u m.held
   sized = unit_sized (state_at m) m.held u is_found
 
@@ -183,60 +172,60 @@ module _ (m : KnownPosition) (u : FileUnit) (is_found : unit_at (state_at m) m.h
   after_it rest broken = record { bytes = drop u.size m.held ++ rest; broken = broken }
 
   -- the unit, and those after it
-  unit_first : (rest : List ℕ) (broken : Bool) → units_from m.stage m.place (record { bytes = m.held ++ rest; broken = broken })
-      ≡ found_then m.place u.found (λ next. units_from (Some next) (m.place + u.size) (after_it rest broken))
+  unit_first : (rest : List ℕ) (broken : Bool) → units_from m.stage m.offset (record { bytes = m.held ++ rest; broken = broken })
+      ≡ found_then m.offset u.found (λ next. units_from (Some next) (m.offset + u.size) (after_it rest broken))
   unit_first rest broken =
       let c : InputRest = record { bytes = m.held ++ rest; broken = broken } in
-      let counts = counted m.place m.held rest broken bound in
-      let spelled : unit_at (state_at m) (window m.place c) ≡ Some u = ap (unit_at (state_at m)) counts.1
+      let counts = counted m.offset m.held rest broken bound in
+      let spelled : unit_at (state_at m) (window m.offset c) ≡ Some u = ap (unit_at (state_at m)) counts.1
       ∙ unit_stays (state_at m) m.held counts.0 u is_found in
-      from_is m.stage m.place c
-      ∙ ap (λ s. units (closing_verdict m.place c) s m.place (window m.place c))
+      from_is m.stage m.offset c
+      ∙ ap (λ s. units (closing_verdict m.offset c) s m.offset (window m.offset c))
       (same_state m.stage m.held rest (omega (arith, sized.some, sized.within)))
-      ∙ units_step (closing_verdict m.place c) (state_at m) m.place (window m.place c) u spelled
-      ∙ found_same m.place u.found _ _ (λ next. (λ i.
-      units (sym (same_closing m.place u.size m.held rest broken sized.within bound) i) next (m.place + u.size)
-      (same_window m.place u.size m.held rest broken sized.within bound i))
-      ∙ sym (from_is (Some next) (m.place + u.size) (after_it rest broken)))
+      ∙ units_step (closing_verdict m.offset c) (state_at m) m.offset (window m.offset c) u spelled
+      ∙ found_same m.offset u.found _ _ (λ next. (λ i.
+      units (sym (same_closing m.offset u.size m.held rest broken sized.within bound) i) next (m.offset + u.size)
+      (same_window m.offset u.size m.held rest broken sized.within bound i))
+      ∙ sym (from_is (Some next) (m.offset + u.size) (after_it rest broken)))
 
   unit_known : (c : InputRest) → rest_of_bytes m ≡ Some c → (d : InputRest)
-      × (units_from m.stage m.place c ≡ found_then m.place u.found (λ next. units_from (Some next) (m.place + u.size) d))
+      × (units_from m.stage m.offset c ≡ found_then m.offset u.found (λ next. units_from (Some next) (m.offset + u.size) d))
       × ((next : FileStateData) → rest_of_bytes (gone_over m u.size next) ≡ Some d)
   unit_known c e =
       let b = rest_after m c e in
-      (after_it b.more b.broken, ap (units_from m.stage m.place) b.here ∙ unit_first b.more b.broken, λ next. b.there (drop u.size m.held))
+      (after_it b.more b.broken, ap (units_from m.stage m.offset) b.here ∙ unit_first b.more b.broken, λ next. b.there (drop u.size m.held))
 
   -- A unit without a version leaves the units ahead as they are.
   pub gone_passed : (next : FileStateData) → u.found ≡ Ok (None, next) → Keeps (rest_of_units m) (rest_of_units (gone_over m u.size next))
   gone_passed next is =
       mapped (rest_of_bytes m) _ (λ s. rest_of_units (gone_over m u.size next) ≡ Some s) (with_each (rest_of_bytes m) _ (λ c e. (
       let k = unit_known c e in
-      let same : units_from m.stage m.place c ≡ units_from (Some next) (m.place + u.size) k.0 = k.1
-      ∙ ap (λ f. found_then m.place f (λ n. units_from (Some n) (m.place + u.size) k.0)) is in
-      ap (option_map (λ x. with_input m.input (units_from (Some next) (m.place + u.size) x))) (k.2 next)
+      let same : units_from m.stage m.offset c ≡ units_from (Some next) (m.offset + u.size) k.0 = k.1
+      ∙ ap (λ f. found_then m.offset f (λ n. units_from (Some n) (m.offset + u.size) k.0)) is in
+      ap (option_map (λ x. with_input m.input (units_from (Some next) (m.offset + u.size) x))) (k.2 next)
       ∙ ap (λ s. Some (with_input m.input s)) (sym same))))
 
   -- A unit with a version is the first of the units ahead.
   pub gone_gave : (v : VersionData) (next : FileStateData) → u.found ≡ Ok (Some v, next) →
-      IfSome (rest_of_units m) (λ s. (t : SourceRest Placed Fault) × (s ≡ front (new_placed m.place v) t) ×
+      IfSome (rest_of_units m) (λ s. (t : SourceRest Placed Fault) × (s ≡ front (new_placed m.offset v) t) ×
       (rest_of_units (gone_over m u.size next) ≡ Some t))
   gone_gave v next is =
       mapped (rest_of_bytes m) _ _ (with_each (rest_of_bytes m) _ (λ c e. (
       let k = unit_known c e in
-      let same : units_from m.stage m.place c ≡ front (new_placed m.place v) (units_from (Some next) (m.place + u.size) k.0) = k.1
-      ∙ ap (λ f. found_then m.place f (λ n. units_from (Some n) (m.place + u.size) k.0)) is in (
-        with_input m.input (units_from (Some next) (m.place + u.size) k.0),
+      let same : units_from m.stage m.offset c ≡ front (new_placed m.offset v) (units_from (Some next) (m.offset + u.size) k.0) = k.1
+      ∙ ap (λ f. found_then m.offset f (λ n. units_from (Some n) (m.offset + u.size) k.0)) is in (
+        with_input m.input (units_from (Some next) (m.offset + u.size) k.0),
         ap (with_input m.input) same,
-        ap (option_map (λ x. with_input m.input (units_from (Some next) (m.place + u.size) x))) (k.2 next),
+        ap (option_map (λ x. with_input m.input (units_from (Some next) (m.offset + u.size) x))) (k.2 next),
       ))))
 
   -- A faulty unit refuses the units ahead.
   pub gone_refused : (reason : Reason) → u.found ≡ Err reason →
-      IfSome (rest_of_units m) (λ s. s ≡ end_refused (fault_of m.input (verdict_at m.place reason)))
+      IfSome (rest_of_units m) (λ s. s ≡ end_refused (fault_of m.input (verdict_at m.offset reason)))
   gone_refused reason is =
       mapped (rest_of_bytes m) _ _ (with_each (rest_of_bytes m) _ (λ c e. (
       let k = unit_known c e in
-      ap (with_input m.input) (k.1 ∙ ap (λ f. found_then m.place f (λ n. units_from (Some n) (m.place + u.size) k.0)) is))))
+      ap (with_input m.input) (k.1 ∙ ap (λ f. found_then m.offset f (λ n. units_from (Some n) (m.offset + u.size) k.0)) is))))
 
 -- if no unit is whole
 no_unit : (stage : FileStateData) (found : Option FileUnit) → unit_at stage [] ≡ found → unit_at stage [] ≡ None
@@ -263,32 +252,32 @@ nothing_by stage (a ∷ held) bytes b more none e = ap (λ x. unit_at (state_or_
     ∙ ap (λ s. unit_at s (a ∷ held)) (same_state stage (a ∷ held) (b ∷ more) (omega arith)) ∙ none
 
 -- if no unit is whole in the bytes held, and no more can be read
-module _ (m : KnownPosition) (nothing : unit_at (state_at m) m.held ≡ None) (bound : m.place + length m.held < 2 ^ 62) where
-  pub halted : (c : InputRest) (fault : Fault) → Halts m c fault → with_input m.input (units_from m.stage m.place c) ≡ end_refused fault
+module _ (m : KnownPosition) (nothing : unit_at (state_at m) m.held ≡ None) (bound : m.offset + length m.held < 2 ^ 62) where
+  pub halted : (c : InputRest) (fault : Fault) → Halts m c fault → with_input m.input (units_from m.stage m.offset c) ≡ end_refused fault
   halted c fault (inl h) =
-      let below : nat_lt (m.place + length m.held) length_limit ≡ true = lt-ltb _ _ (rw limit_is bound) in
-      let same : units_from m.stage m.place (record { bytes = m.held; broken = true })
-      ≡ end_refused (verdict_at (m.place + length m.held) ReadFault) =
-      from_is m.stage m.place (record { bytes = m.held; broken = true })
-      ∙ ap (λ t. units (cond t (Some (verdict_at (m.place + length m.held) ReadFault)) (Some too_long_verdict)) (state_at m) m.place
-      (cond t m.held (take (length_limit - 1 - m.place) m.held))) below
-      ∙ units_stop (Some (verdict_at (m.place + length m.held) ReadFault)) (state_at m) m.place m.held nothing in
-      ap (λ x. with_input m.input (units_from m.stage m.place x)) h.0 ∙ ap (with_input m.input) same ∙ ap end_refused (sym h.1)
+      let below : nat_lt (m.offset + length m.held) length_limit ≡ true = lt-ltb _ _ (rw limit_is bound) in
+      let same : units_from m.stage m.offset (record { bytes = m.held; broken = true })
+      ≡ end_refused (verdict_at (m.offset + length m.held) ReadFault) =
+      from_is m.stage m.offset (record { bytes = m.held; broken = true })
+      ∙ ap (λ t. units (cond t (Some (verdict_at (m.offset + length m.held) ReadFault)) (Some too_long_verdict)) (state_at m) m.offset
+      (cond t m.held (take (length_limit - 1 - m.offset) m.held))) below
+      ∙ units_stop (Some (verdict_at (m.offset + length m.held) ReadFault)) (state_at m) m.offset m.held nothing in
+      ap (λ x. with_input m.input (units_from m.stage m.offset x)) h.0 ∙ ap (with_input m.input) same ∙ ap end_refused (sym h.1)
   halted c fault (inr h) =
       let b : ℕ = h.1.0 in
       let more : List ℕ = h.1.1 in
       let long : length c.bytes ≡ length m.held + suc (length more) = ap length h.1.2 ∙ length-append m.held (b ∷ more) in
-      let above : nat_lt (m.place + length c.bytes) length_limit ≡ false =
-      not_below (m.place + length c.bytes) length_limit (omega (arith, limit_is, h.0, long)) in
-      let room : length_limit - 1 - m.place ≡ length m.held + 0 = omega (arith, limit_is, h.0) in
-      let front : take (length_limit - 1 - m.place) c.bytes ≡ m.held = (λ i. take (room i) (h.1.2 i)) ∙ take-append-add m.held (b ∷ more) 0
+      let above : nat_lt (m.offset + length c.bytes) length_limit ≡ false =
+      not_below (m.offset + length c.bytes) length_limit (omega (arith, limit_is, h.0, long)) in
+      let room : length_limit - 1 - m.offset ≡ length m.held + 0 = omega (arith, limit_is, h.0) in
+      let front : take (length_limit - 1 - m.offset) c.bytes ≡ m.held = (λ i. take (room i) (h.1.2 i)) ∙ take-append-add m.held (b ∷ more) 0
       ∙ append-nil m.held in
-      let same : units_from m.stage m.place c ≡ end_refused too_long_verdict =
-      from_is m.stage m.place c
-      ∙ ap (λ t. units (cond t (cond c.broken (Some (verdict_at (m.place + length c.bytes) ReadFault)) None) (Some too_long_verdict))
-      (state_or_start m.stage c.bytes) m.place (cond t c.bytes (take (length_limit - 1 - m.place) c.bytes))) above
-      ∙ ap (units (Some too_long_verdict) (state_or_start m.stage c.bytes) m.place) front
-      ∙ units_stop (Some too_long_verdict) (state_or_start m.stage c.bytes) m.place m.held
+      let same : units_from m.stage m.offset c ≡ end_refused too_long_verdict =
+      from_is m.stage m.offset c
+      ∙ ap (λ t. units (cond t (cond c.broken (Some (verdict_at (m.offset + length c.bytes) ReadFault)) None) (Some too_long_verdict))
+      (state_or_start m.stage c.bytes) m.offset (cond t c.bytes (take (length_limit - 1 - m.offset) c.bytes))) above
+      ∙ ap (units (Some too_long_verdict) (state_or_start m.stage c.bytes) m.offset) front
+      ∙ units_stop (Some too_long_verdict) (state_or_start m.stage c.bytes) m.offset m.held
       (nothing_by m.stage m.held c.bytes b more nothing h.1.2) in
       ap (with_input m.input) same ∙ ap end_refused (sym h.2)
 
@@ -296,17 +285,17 @@ module _ (m : KnownPosition) (nothing : unit_at (state_at m) m.held ≡ None) (b
   pub stopped : (fault : Fault) → StopsFilling m fault → (fault ≡ memory_fault) ⊎ IfSome (rest_of_units m) (λ s. s ≡ end_refused fault)
   stopped fault (inl h) = inl h
   stopped fault (inr h) = inr (mapped (rest_of_bytes m) _ (λ s. s ≡ end_refused fault)
-      (weaker (rest_of_bytes m) _ _ (λ c k. halted c fault k) h))
+      (IfSome_then (rest_of_bytes m) h (λ c k. halted c fault k)))
 
   -- at the end of the input
   pub at_the_end : m.ended ≡ true → rest_of_units m ≡ Some
-      (with_input m.input (found_then m.place (last_at (state_at m) m.held) (λ next. end_whole)))
+      (with_input m.input (found_then m.offset (last_at (state_at m) m.held) (λ next. end_whole)))
   at_the_end ended =
-      let below : nat_lt (m.place + length m.held) length_limit ≡ true = lt-ltb _ _ (rw limit_is bound) in
-      let same : units_from m.stage m.place (all_of m.held) ≡ found_then m.place (last_at (state_at m) m.held) (λ next. end_whole) =
-      from_is m.stage m.place (all_of m.held)
-      ∙ ap (λ t. units (cond t None (Some too_long_verdict)) (state_at m) m.place
-      (cond t m.held (take (length_limit - 1 - m.place) m.held))) below
-      ∙ units_stop None (state_at m) m.place m.held nothing in
-      ap (option_map (λ c. with_input m.input (units_from m.stage m.place c))) (ended_ahead m ended)
+      let below : nat_lt (m.offset + length m.held) length_limit ≡ true = lt-ltb _ _ (rw limit_is bound) in
+      let same : units_from m.stage m.offset (all_of m.held) ≡ found_then m.offset (last_at (state_at m) m.held) (λ next. end_whole) =
+      from_is m.stage m.offset (all_of m.held)
+      ∙ ap (λ t. units (cond t None (Some too_long_verdict)) (state_at m) m.offset
+      (cond t m.held (take (length_limit - 1 - m.offset) m.held))) below
+      ∙ units_stop None (state_at m) m.offset m.held nothing in
+      ap (option_map (λ c. with_input m.input (units_from m.stage m.offset c))) (ended_ahead m ended)
       ∙ ap (λ s. Some (with_input m.input s)) same

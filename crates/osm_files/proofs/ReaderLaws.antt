@@ -26,21 +26,21 @@ use Rattle.osm_files.proofs.ReadingLaws.{over_passes, refusal_step, keeps_still}
 -- no version was given, and a known rest is unchanged; units without a version may have been passed
 pub record HasPassed {R : Type 0} (can : R → InputRest → Type 0) (p q : Position R) : Type 0 where
   pub input : q.input ≡ p.input
-  pub place : p.place ≤ q.place
+  pub offset : p.offset ≤ q.offset
   pub failed : q.failed ≡ p.failed
   pub goes : Between can p q KeepsRest
 
 -- a bound on the bytes still to be passed, and on those still to be read before the end is found
 abbrev pub left_over : {R : Type 0} → Position R → ℕ
-left_over p = units_left p + cond p.ended 0 (1 + (2 ^ 62 - (p.place + length p.held)))
+left_over p = units_left p + cond p.ended 0 (1 + (2 ^ 62 - (p.offset + length p.held)))
 
 reads_on : (p : KnownPosition) → ReadsOn p p
-reads_on p = record { input = refl; place = refl; stage = refl; failed = refl; ahead = kept (rest_of_bytes p) }
+reads_on p = record { input = refl; offset = refl; stage = refl; failed = refl; ahead = kept (rest_of_bytes p) }
 
 reads_further : (p m q : KnownPosition) → ReadsOn p m → ReadsOn m q → ReadsOn p q
 reads_further p m q a b = record {
   input = b.input ∙ a.input;
-  place = b.place ∙ a.place;
+  offset = b.offset ∙ a.offset;
   stage = b.stage ∙ a.stage;
   failed = b.failed ∙ a.failed;
   ahead = keeps_on (rest_of_bytes p) (rest_of_bytes m) (rest_of_bytes q) a.ahead b.ahead;
@@ -73,7 +73,7 @@ module _ {R : Type 0} (can : R → InputRest → Type 0) where
   pub has_gone : (p : Position R) → HasPassed can p p
   has_gone p = record {
     input = refl;
-    place = omega arith;
+    offset = omega arith;
     failed = refl;
     goes =
         unread p p KeepsRest refl (λ c. goes_on (with_rest p c));
@@ -88,10 +88,10 @@ module _ {R : Type 0} (can : R → InputRest → Type 0) where
 
   -- If no unit is whole in the bytes held, nothing more was gone over.
   pub gone_none : (p m q : Position R) → HasPassed can p m → FindsUnit m (Ok None) q → q.rest ≡ m.rest → q.input ≡ m.input
-      → q.place ≡ m.place → q.failed ≡ m.failed → HasPassed can p q
-  gone_none p m q on found same input place failed = record {
+      → q.offset ≡ m.offset → q.failed ≡ m.failed → HasPassed can p q
+  gone_none p m q on found same input offset failed = record {
     input = input ∙ on.input;
-    place = omega (arith, on.place, place);
+    offset = omega (arith, on.offset, offset);
     failed = failed ∙ on.failed;
     goes =
         gone_then p m q KeepsRest on same
@@ -103,7 +103,7 @@ module _ {R : Type 0} (can : R → InputRest → Type 0) where
   pub gone_read : (p m q : Position R) → HasPassed can p m → HasRead can m q → q.input ≡ m.input → HasPassed can p q
   gone_read p m q on read input = record {
     input = input ∙ on.input;
-    place = omega (arith, on.place, read.place);
+    offset = omega (arith, on.offset, read.offset);
     failed = read.failed ∙ on.failed;
     goes = then_on p m q KeepsRest ReadsOn KeepsRest (λ a b c goes reads. goes_further a b c goes (reads_go_on b c reads)) on.goes
         read.reads;
@@ -111,13 +111,13 @@ module _ {R : Type 0} (can : R → InputRest → Type 0) where
 
   -- ---- reading more bytes
   -- the end of the input was found
-  pub fill_ended : (p q : Position R) (front : List ℕ) → p.ended ≡ false → q.ended ≡ true → q.input ≡ p.input → q.place ≡ p.place
+  pub fill_ended : (p q : Position R) (front : List ℕ) → p.ended ≡ false → q.ended ≡ true → q.input ≡ p.input → q.offset ≡ p.offset
       → q.stage ≡ p.stage → q.failed ≡ p.failed → q.held ≡ p.held ++ front → length front ≡ 0
       → can p.rest (whole_input []) → HasRead can p q
-  fill_ended p q front unended ended input place stage failed held none ends =
+  fill_ended p q front unended ended input offset stage failed held none ends =
       let same : q.held ≡ p.held ++ [] = held ∙ ap (λ xs. p.held ++ xs) (nil_from_length front none) in
       record {
-        place = place;
+        offset = offset;
         stage = stage;
         failed = failed;
         reads = λ later g. (
@@ -125,7 +125,7 @@ module _ {R : Type 0} (can : R → InputRest → Type 0) where
           ends,
           record {
             input = input;
-            place = place;
+            offset = offset;
             stage = stage;
             failed = failed;
             ahead =
@@ -139,32 +139,32 @@ module _ {R : Type 0} (can : R → InputRest → Type 0) where
   -- memory ran out, or the input failed
   pub fill_stopped : (p : Position R) (one : InputRest) (reason : Reason) (fault : Fault) → can p.rest one
       → (reason ≡ Memory) ⊎ (reason ≡ ReadFault) → (reason ≡ ReadFault → can p.rest (broken_input [])) → p.ended ≡ false
-      → fault ≡ fault_at p.input (p.place + length p.held) reason → StopsAt can p fault
+      → fault ≡ fault_at p.input (p.offset + length p.held) reason → StopsAt can p fault
   fill_stopped p one reason fault possible (inl e) broken unended is =
-      (one, possible, inl (is ∙ ap (fault_at p.input (p.place + length p.held)) e))
+      (one, possible, inl (is ∙ ap (fault_at p.input (p.offset + length p.held)) e))
   fill_stopped p one reason fault possible (inr e) broken unended is = (
     broken_input [],
     broken e,
     inr (subst (λ (o : Option InputRest). IfSome o (λ c. Halts (with_rest p (broken_input [])) c fault))
         (sym (ahead_open (with_rest p (broken_input [])) unended))
-        (inl (ap (λ xs. broken_input xs) (append-nil p.held), is ∙ ap (fault_at p.input (p.place + length p.held)) e))),
+        (inl (ap (λ xs. broken_input xs) (append-nil p.held), is ∙ ap (fault_at p.input (p.offset + length p.held)) e))),
   )
 
   -- one byte came after as many as a file may have
   pub fill_limit : (p : Position R) (later earlier : InputRest) (front : List ℕ) (fault : Fault) → can p.rest earlier
-      → earlier ≡ with_front front later → 0 < length front → p.ended ≡ false → p.place + length p.held + 1 ≡ 2 ^ 62
+      → earlier ≡ with_front front later → 0 < length front → p.ended ≡ false → p.offset + length p.held + 1 ≡ 2 ^ 62
       → fault ≡ too_long_fault p.input → StopsAt can p fault
   fill_limit p later earlier front fault possible is some unended full fault_is =
       (earlier, possible, fill_full (with_rest p earlier) (Some later) front fault unended (ap Some is) some full fault_is)
 
   -- A position without a change has read.
   pub has_read : (p : Position R) → HasRead can p p
-  has_read p = record { place = refl; stage = refl; failed = refl; reads = unread p p ReadsOn refl (λ c. reads_on (with_rest p c)) }
+  has_read p = record { offset = refl; stage = refl; failed = refl; reads = unread p p ReadsOn refl (λ c. reads_on (with_rest p c)) }
 
   -- Reading on twice is reading on.
   pub read_further : (p m q : Position R) → HasRead can p m → HasRead can m q → HasRead can p q
   read_further p m q first second = record {
-    place = second.place ∙ first.place;
+    offset = second.offset ∙ first.offset;
     stage = second.stage ∙ first.stage;
     failed = second.failed ∙ first.failed;
     reads = then_on p m q ReadsOn ReadsOn ReadsOn reads_further first.reads second.reads;
@@ -172,7 +172,7 @@ module _ {R : Type 0} (can : R → InputRest → Type 0) where
 
   -- ---- the format
   -- no more can be read
-  pub format_stops : (p m q : Position R) → HasRead can p m → p.place ≡ 0 → p.stage ≡ None → p.failed ≡ false →
+  pub format_stops : (p m q : Position R) → HasRead can p m → p.offset ≡ 0 → p.stage ≡ None → p.failed ≡ false →
       determines_format m.held ≡ false
       → (fault : Fault) → StopsAt can m fault → q.failed ≡ true → StepsOn can p (Err fault) q
   format_stops p m q on first unseen fine shown fault stops failed later g =
@@ -201,14 +201,14 @@ module _ {R : Type 0} (can : R → InputRest → Type 0) where
   pub gone_further : (p m q : Position R) → HasPassed can p m → HasPassed can m q → HasPassed can p q
   gone_further p m q a b = record {
     input = b.input ∙ a.input;
-    place = omega (arith, a.place, b.place);
+    offset = omega (arith, a.offset, b.offset);
     failed = b.failed ∙ a.failed;
     goes = then_on p m q KeepsRest KeepsRest KeepsRest goes_further a.goes b.goes;
   }
 
   -- a unit of the bytes held was passed
-  module _ (m q r : Position R) (u : ReadUnit) (bound : m.place + length m.held < 2 ^ 62) (found : FindsUnit m (Ok (Some u)) q)
-      (gone : r ≡ record q { place = q.place + u.size; held = drop u.size q.held }) where
+  module _ (m q r : Position R) (u : ReadUnit) (bound : m.offset + length m.held < 2 ^ 62) (found : FindsUnit m (Ok (Some u)) q)
+      (gone : r ≡ record q { offset = q.offset + u.size; held = drop u.size q.held }) where
     same_input : r.input ≡ m.input
     same_input = ap (λ v. v.input) gone ∙ (held_size m q u found).3
 
@@ -219,8 +219,8 @@ module _ {R : Type 0} (can : R → InputRest → Type 0) where
     same_failed = ap (λ v. v.failed) gone ∙ (held_size m q u found).4
 
     -- A unit leads to a later offset.
-    pub unit_further : m.place < r.place
-    unit_further = let size = held_size m q u found in omega (arith, size.0, size.2, ap (λ v. v.place) gone)
+    pub unit_further : m.offset < r.offset
+    unit_further = let size = held_size m q u found in omega (arith, size.0, size.2, ap (λ v. v.offset) gone)
 
     -- After a unit, less is left over.
     pub unit_lessens : left_over r < left_over m
@@ -230,32 +230,32 @@ module _ {R : Type 0} (can : R → InputRest → Type 0) where
         let held : length r.held ≡ length m.held - u.size =
         ap (λ v. length v.held) gone ∙ length-drop u.size q.held ∙ ap (λ v. length v.held - u.size) found.2 in
         let within : u.size ≤ length m.held = subst (λ (v : Position R). u.size ≤ length v.held) found.2 size.1 in
-        let place : r.place ≡ m.place + u.size = ap (λ v. v.place) gone ∙ ap (λ n. n + u.size) size.2 in
-        subst (λ t. units_left r + cond t 0 (1 + (2 ^ 62 - (r.place + length r.held))) < left_over m) (sym ended)
-        (elim m.ended as (λ t. units_left r + cond t 0 (1 + (2 ^ 62 - (r.place + length r.held))) < units_left m + cond t 0
-        (1 + (2 ^ 62 - (m.place + length m.held)))) [
-          | true ↦ omega (arith, size.0, place, bound, within)
-          | false ↦ omega (arith, size.0, place, held, within, bound)
+        let offset : r.offset ≡ m.offset + u.size = ap (λ v. v.offset) gone ∙ ap (λ n. n + u.size) size.2 in
+        subst (λ t. units_left r + cond t 0 (1 + (2 ^ 62 - (r.offset + length r.held))) < left_over m) (sym ended)
+        (elim m.ended as (λ t. units_left r + cond t 0 (1 + (2 ^ 62 - (r.offset + length r.held))) < units_left m + cond t 0
+        (1 + (2 ^ 62 - (m.offset + length m.held)))) [
+          | true ↦ omega (arith, size.0, offset, bound, within)
+          | false ↦ omega (arith, size.0, offset, held, within, bound)
         ])
 
-    over : (c : InputRest) (given : Option Placed) → given ≡ option_map (new_placed q.place) u.version →
+    over : (c : InputRest) (given : Option Placed) → given ≡ option_map (new_placed q.offset) u.version →
         GoesOver (with_rest m c) given (with_rest r c)
     over c given is =
         held_goes_over (with_rest m c) (with_rest q c) (with_rest r c) u given bound (telling_found m q (Ok (Some u)) c found) is
         (ap (λ v. with_rest v c) gone)
 
     -- A unit with a version is a step that gives it.
-    pub unit_gives : m.failed ≡ false → (given : Placed) → Some given ≡ option_map (new_placed q.place) u.version
+    pub unit_gives : m.failed ≡ false → (given : Placed) → Some given ≡ option_map (new_placed q.offset) u.version
         → StepsOn can m (Ok (Some given)) r
     unit_gives fine given is =
         unread m r (λ a b. SourceStep (units_or_failed a) (Ok (Some given)) (units_or_failed b)) same_rest
         (λ c. over_gives (with_rest m c) (with_rest r c) given fine same_failed (over c (Some given) is))
 
     -- A unit without a version is gone over.
-    pub unit_passes : None ≡ option_map (new_placed q.place) u.version → HasPassed can m r
+    pub unit_passes : None ≡ option_map (new_placed q.offset) u.version → HasPassed can m r
     unit_passes is = record {
       input = same_input;
-      place = omega (arith, unit_further);
+      offset = omega (arith, unit_further);
       failed = same_failed;
       goes =
           unread m r KeepsRest same_rest
@@ -271,7 +271,7 @@ module _ {R : Type 0} (can : R → InputRest → Type 0) where
 
   -- for a unit that is held
   pub unit_refused : (m q r : Position R) (reason : Reason) (fault : Fault) (one : InputRest) → can m.rest one → m.failed ≡ false
-      → r.failed ≡ true → m.place + length m.held < 2 ^ 62 → FindsUnit m (Err reason) q → fault ≡ fault_at m.input m.place reason
+      → r.failed ≡ true → m.offset + length m.held < 2 ^ 62 → FindsUnit m (Err reason) q → fault ≡ fault_at m.input m.offset reason
       → StepsOn can m (Err fault) r
   unit_refused m q r reason fault one possible fine failed bound found is =
       refused_ever m r fault one possible fine failed
@@ -279,6 +279,6 @@ module _ {R : Type 0} (can : R → InputRest → Type 0) where
 
   -- because no more can be read
   pub fill_refused : (m r : Position R) (fault : Fault) → m.failed ≡ false → r.failed ≡ true → unit_at (state_at m) m.held ≡ None
-      → m.place + length m.held < 2 ^ 62 → StopsAt can m fault → StepsOn can m (Err fault) r
+      → m.offset + length m.held < 2 ^ 62 → StopsAt can m fault → StepsOn can m (Err fault) r
   fill_refused m r fault fine failed nothing bound stops =
       refused_ever m r fault stops.0 stops.1 fine failed (stopped (with_rest m stops.0) nothing bound fault stops.2)

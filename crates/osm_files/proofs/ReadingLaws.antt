@@ -4,6 +4,9 @@ use Rattle.std.proofs.Common.{sym, ap, ◌∙◌, subst, arith, Option, Some, No
 use Rattle.std.proofs.Common.{nat_lt}
 use Rattle.std.proofs.lemmas.Bool.{false≢true}
 use Rattle.std.proofs.lemmas.Bool.Decides.{nat_tests}
+use Rattle.std.proofs.lemmas.List.{nil_from_length}
+use Rattle.std.proofs.Math.Seq.{drop-length}
+use Rattle.std.proofs.lemmas.Option.{IfSome_then}
 use Rattle.osm_model.specs.Data.{VersionData}
 use Rattle.osm_files.specs.declared.fault.Fault.{Fault}
 use Rattle.osm_files.specs.declared.reason.Reason.{Reason}
@@ -23,25 +26,25 @@ use Rattle.osm_files.specs.Reading.{Finds, FindsLast, state_data_of, version_of_
 use Rattle.osm_files.specs.Position.{Position, KnownPosition, with_rest, rest_of_bytes, state_or_start, closing_verdict, window}
 use Rattle.osm_files.specs.Position.{units_from, fault_of, with_input, rest_of_units}
 use Rattle.osm_files.specs.Position.{units_or_failed, Keeps, KeepsRest, state_at, with_state, FindsUnit}
-use Rattle.osm_files.proofs.FillLaws.{weaker, mapped}
+use Rattle.osm_files.proofs.FillLaws.{mapped}
 use Rattle.osm_files.proofs.StepLaws.{unit_sized}
 use Rattle.osm_files.proofs.PositionLaws.{from_is, rest_after, same_state, with_each, gone_over, gone_passed, gone_gave, gone_refused}
 use Rattle.osm_files.proofs.PositionLaws.{none_in_nothing, at_the_end, goes_on}
 
 -- The fault of a reason at an offset.
-pub fault_is : (input place : ℕ) (reason : Reason)
-    → (fault_at input place reason ≡ memory_fault) ⊎ (fault_at input place reason ≡ fault_of input (verdict_at place reason))
-fault_is input place Memory = inl refl
-fault_is input place (Opl inner) = inr refl
-fault_is input place (O5 inner) = inr refl
-fault_is input place BadHeader = inr refl
-fault_is input place Unsorted = inr refl
-fault_is input place NoEnd = inr refl
-fault_is input place AfterEnd = inr refl
-fault_is input place TooLong = inr refl
-fault_is input place ReadFault = inr refl
-fault_is input place WriteFault = inr refl
-fault_is input place Failed = inr refl
+pub fault_is : (input offset : ℕ) (reason : Reason)
+    → (fault_at input offset reason ≡ memory_fault) ⊎ (fault_at input offset reason ≡ fault_of input (verdict_at offset reason))
+fault_is input offset Memory = inl refl
+fault_is input offset (Opl inner) = inr refl
+fault_is input offset (O5 inner) = inr refl
+fault_is input offset BadHeader = inr refl
+fault_is input offset Unsorted = inr refl
+fault_is input offset NoEnd = inr refl
+fault_is input offset AfterEnd = inr refl
+fault_is input offset TooLong = inr refl
+fault_is input offset ReadFault = inr refl
+fault_is input offset WriteFault = inr refl
+fault_is input offset Failed = inr refl
 
 -- ---- the first byte
 seen_by : {C : Type 0} (p : Position C) (P : Position C → Type 0)
@@ -82,27 +85,27 @@ state_there : (p : KnownPosition) (s : FileStateData) → is_some (slice_get p.h
     KeepsRest p (record p { stage = Some s })
 state_there p s e is = record {
   input = refl;
-  place = omega arith;
+  offset = omega arith;
   failed = refl;
   keeps =
       mapped (rest_of_bytes p) _ (λ x. rest_of_units (record p { stage = Some s }) ≡ Some x) (with_each (rest_of_bytes p) _ (λ c at. (
       let b = rest_after p c at in
       let in_there : state_or_start p.stage c.bytes ≡ s =
       ap (λ (d : InputRest). state_or_start p.stage d.bytes) b.here ∙ same_state p.stage p.held b.more (some_held p.held e) ∙ is in
-      let same : units_from (Some s) p.place c ≡ units_from p.stage p.place c =
-      from_is (Some s) p.place c ∙ ap (λ x. units (closing_verdict p.place c) x p.place (window p.place c)) (sym in_there)
-      ∙ sym (from_is p.stage p.place c) in
-      ap (option_map (λ x. with_input p.input (units_from (Some s) p.place x))) at ∙ ap (λ x. Some (with_input p.input x)) same)));
+      let same : units_from (Some s) p.offset c ≡ units_from p.stage p.offset c =
+      from_is (Some s) p.offset c ∙ ap (λ x. units (closing_verdict p.offset c) x p.offset (window p.offset c)) (sym in_there)
+      ∙ sym (from_is p.stage p.offset c) in
+      ap (option_map (λ x. with_input p.input (units_from (Some s) p.offset x))) at ∙ ap (λ x. Some (with_input p.input x)) same)));
 }
 
 pub seen_goes_on : (p : KnownPosition) → KeepsRest p (with_state p)
 seen_goes_on p = seen_by p (KeepsRest p) (λ e. state_there p (state_at p) e refl) (λ e. goes_on p)
 
 seen_same : {C : Type 0} (p : Position C)
-    → ((with_state p).rest ≡ p.rest) × ((with_state p).input ≡ p.input) × ((with_state p).place ≡ p.place) ×
+    → ((with_state p).rest ≡ p.rest) × ((with_state p).input ≡ p.input) × ((with_state p).offset ≡ p.offset) ×
     ((with_state p).failed ≡ p.failed)
 seen_same p =
-    seen_by p (λ q. (q.rest ≡ p.rest) × (q.input ≡ p.input) × (q.place ≡ p.place) × (q.failed ≡ p.failed))
+    seen_by p (λ q. (q.rest ≡ p.rest) × (q.input ≡ p.input) × (q.offset ≡ p.offset) × (q.failed ≡ p.failed))
     (λ e. (refl, refl, refl, refl)) (λ e. (refl, refl, refl, refl))
 
 -- ---- the unit at the front of the bytes held
@@ -159,10 +162,10 @@ module _ {C : Type 0} (m q : Position C) (h : FindsUnit m (Ok None) q) where
   none_there = (λ i. unit_at (state_at (h.1 i)) ((h.1 i).held)) ∙ (λ i. unit_at (seen_state_at m i) (seen_held m i)) ∙ h.0
 
   -- Where no unit was found, the position stays as it is.
-  pub none_same : (q.rest ≡ m.rest) × (q.input ≡ m.input) × (q.place ≡ m.place) × (q.failed ≡ m.failed)
+  pub none_same : (q.rest ≡ m.rest) × (q.input ≡ m.input) × (q.offset ≡ m.offset) × (q.failed ≡ m.failed)
   none_same =
       let same = seen_same m in
-      (ap (λ x. x.rest) h.1 ∙ same.0, ap (λ x. x.input) h.1 ∙ same.1, ap (λ x. x.place) h.1 ∙ same.2, ap (λ x. x.failed) h.1 ∙ same.3)
+      (ap (λ x. x.rest) h.1 ∙ same.0, ap (λ x. x.input) h.1 ∙ same.1, ap (λ x. x.offset) h.1 ∙ same.2, ap (λ x. x.failed) h.1 ∙ same.3)
 
   pub none_known : q.stage ≡ None → q.held ≡ []
   none_known e = ap (λ x. x.held) h.1 ∙ seen_held m ∙ seen_none m (ap (λ x. x.stage) (sym h.1) ∙ e)
@@ -197,17 +200,17 @@ telling_found p q (Err reason) c h = h
 
 -- ---- one unit further
 -- a fault of this reason, if the rest was refused for it
-pub refuses : (m : KnownPosition) (reason : Reason) (fault : Fault) → fault ≡ fault_at m.input m.place reason
-    → (reason ≡ Memory) ⊎ IfSome (rest_of_units m) (λ s. s ≡ end_refused (fault_of m.input (verdict_at m.place reason)))
+pub refuses : (m : KnownPosition) (reason : Reason) (fault : Fault) → fault ≡ fault_at m.input m.offset reason
+    → (reason ≡ Memory) ⊎ IfSome (rest_of_units m) (λ s. s ≡ end_refused (fault_of m.input (verdict_at m.offset reason)))
     → (fault ≡ memory_fault) ⊎ IfSome (rest_of_units m) (λ s. s ≡ end_refused fault)
-refuses m reason fault is (inl e) = inl (is ∙ ap (fault_at m.input m.place) e)
+refuses m reason fault is (inl e) = inl (is ∙ ap (fault_at m.input m.offset) e)
 refuses m reason fault is (inr h) =
-    ⊎_elim (λ k. inl (is ∙ k)) (λ k. inr (weaker (rest_of_units m) _ _ (λ s e. e ∙ ap end_refused (sym (is ∙ k))) h))
-    (fault_is m.input m.place reason)
+    ⊎_elim (λ k. inl (is ∙ k)) (λ k. inr (IfSome_then (rest_of_units m) h (λ s e. e ∙ ap end_refused (sym (is ∙ k)))))
+    (fault_is m.input m.offset reason)
 
 -- A unit that is refused at the front refuses the units ahead.
-pub held_refuses : (m q : KnownPosition) (reason : Reason) (fault : Fault) → m.place + length m.held < 2 ^ 62 → FindsUnit m (Err reason) q
-    → fault ≡ fault_at m.input m.place reason → (fault ≡ memory_fault) ⊎ IfSome (rest_of_units m) (λ s. s ≡ end_refused fault)
+pub held_refuses : (m q : KnownPosition) (reason : Reason) (fault : Fault) → m.offset + length m.held < 2 ^ 62 → FindsUnit m (Err reason) q
+    → fault ≡ fault_at m.input m.offset reason → (fault ≡ memory_fault) ⊎ IfSome (rest_of_units m) (λ s. s ≡ end_refused fault)
 held_refuses m q reason fault bound (inl e) is = refuses m reason fault is (inl e)
 held_refuses m q reason fault bound (inr h) is =
     refuses m reason fault is (inr (gone_refused m (unit h.0 (Err reason)) h.1 bound reason refl))
@@ -218,31 +221,31 @@ GoesOver m None q = Keeps (rest_of_units m) (rest_of_units q)
 GoesOver m (Some u) q = IfSome (rest_of_units m) (λ s. (t : SourceRest Placed Fault) × (s ≡ front u t) × (rest_of_units q ≡ Some t))
 
 goes_over : (m : KnownPosition) (size : ℕ) (version : Option VersionData) (next : FileStateData)
-    → unit_at (state_at m) m.held ≡ Some (unit size (Ok (version, next))) → m.place + length m.held < 2 ^ 62
-    → GoesOver m (option_map (new_placed m.place) version) (gone_over m size next)
+    → unit_at (state_at m) m.held ≡ Some (unit size (Ok (version, next))) → m.offset + length m.held < 2 ^ 62
+    → GoesOver m (option_map (new_placed m.offset) version) (gone_over m size next)
 goes_over m size None next e bound = gone_passed m (unit size (Ok (None, next))) e bound next refl
 goes_over m size (Some v) next e bound = gone_gave m (unit size (Ok (Some v, next))) e bound v next refl
 
 -- A unit that is found at the front is gone over.
-pub held_goes_over : (m q r : KnownPosition) (u : ReadUnit) (given : Option Placed) → m.place + length m.held < 2 ^ 62 →
+pub held_goes_over : (m q r : KnownPosition) (u : ReadUnit) (given : Option Placed) → m.offset + length m.held < 2 ^ 62 →
     FindsUnit m (Ok (Some u)) q
-    → given ≡ option_map (new_placed q.place) u.version
-    → r ≡ record q { place = q.place + u.size; held = drop u.size q.held } → GoesOver m given r
+    → given ≡ option_map (new_placed q.offset) u.version
+    → r ≡ record q { offset = q.offset + u.size; held = drop u.size q.held } → GoesOver m given r
 held_goes_over m q r u given bound h is gone =
     let same : r ≡ gone_over m u.size h.0 =
-    gone ∙ (λ i. record (h.2 i) { place = (h.2 i).place + u.size; held = drop u.size (h.2 i).held }) in
+    gone ∙ (λ i. record (h.2 i) { offset = (h.2 i).offset + u.size; held = drop u.size (h.2 i).held }) in
     subst (λ (x : KnownPosition). GoesOver m given x) (sym same)
     (subst (λ (g : Option Placed). GoesOver m g (gone_over m u.size h.0))
-    (sym (is ∙ ap (λ (x : KnownPosition). option_map (new_placed x.place) u.version) h.2)) (goes_over m u.size u.version h.0 h.1 bound))
+    (sym (is ∙ ap (λ (x : KnownPosition). option_map (new_placed x.offset) u.version) h.2)) (goes_over m u.size u.version h.0 h.1 bound))
 
 -- A unit that is found has a byte at least, and no more than are held.
 pub held_size : {C : Type 0} (m q : Position C) (u : ReadUnit) → FindsUnit m (Ok (Some u)) q
-    → (1 ≤ u.size) × (u.size ≤ length q.held) × (q.place ≡ m.place) × (q.input ≡ m.input) × (q.failed ≡ m.failed)
+    → (1 ≤ u.size) × (u.size ≤ length q.held) × (q.offset ≡ m.offset) × (q.input ≡ m.input) × (q.failed ≡ m.failed)
 held_size m q u h =
     let sized = unit_sized (state_at m) m.held (unit u.size (Ok (u.version, h.0))) h.1 in (
       sized.some,
       subst (λ xs. u.size ≤ length xs) (ap (λ x. x.held) (sym h.2)) sized.within,
-      ap (λ x. x.place) h.2,
+      ap (λ x. x.offset) h.2,
       ap (λ x. x.input) h.2,
       ap (λ x. x.failed) h.2,
     )
@@ -274,8 +277,8 @@ pub over_gives : (m q : KnownPosition) (u : Placed) → m.failed ≡ false → q
 over_gives m q u fine same h = still_step m q (Ok (Some u)) fine (same ∙ fine) h
 
 -- To go over a unit without a version is to go on.
-pub over_passes : (m q : KnownPosition) → q.input ≡ m.input → m.place ≤ q.place → q.failed ≡ m.failed → GoesOver m None q → KeepsRest m q
-over_passes m q input place failed h = record { input = input; place = place; failed = failed; keeps = h }
+pub over_passes : (m q : KnownPosition) → q.input ≡ m.input → m.offset ≤ q.offset → q.failed ≡ m.failed → GoesOver m None q → KeepsRest m q
+over_passes m q input offset failed h = record { input = input; offset = offset; failed = failed; keeps = h }
 
 -- the reading was refused, now and ever after
 pub refusal_step : (m q : KnownPosition) (fault : Fault) → m.failed ≡ false → q.failed ≡ true
@@ -311,34 +314,27 @@ state_nothing None held version e = opl_nothing
 state_nothing (Some s) held version e = last_nothing s held version e
 
 -- the finding by its version only
-found_by : (place : ℕ) (found : UnitResult) (version : Option VersionData) → version_of_unit found ≡ Ok version
-    → found_then place found (λ next. end_whole) ≡ found_then place (Ok (version, InOpl)) (λ next. end_whole)
-found_by place (Ok (None, next)) version e = let f : None ≡ version = cc in ap (λ v. found_then place (Ok (v, InOpl)) (λ next. end_whole)) f
-found_by place (Ok (Some v, next)) version e = let f : Some v ≡ version = cc in
-    ap (λ w. found_then place (Ok (w, InOpl)) (λ next. end_whole)) f
-found_by place (Err reason) version e = absurd (let f : Err reason ≡ Ok version = e in cc)
+found_by : (offset : ℕ) (found : UnitResult) (version : Option VersionData) → version_of_unit found ≡ Ok version
+    → found_then offset found (λ next. end_whole) ≡ found_then offset (Ok (version, InOpl)) (λ next. end_whole)
+found_by offset (Ok (None, next)) version e = let f : None ≡ version = cc in
+    ap (λ v. found_then offset (Ok (v, InOpl)) (λ next. end_whole)) f
+found_by offset (Ok (Some v, next)) version e = let f : Some v ≡ version = cc in
+    ap (λ w. found_then offset (Ok (w, InOpl)) (λ next. end_whole)) f
+found_by offset (Err reason) version e = absurd (let f : Err reason ≡ Ok version = e in cc)
 
-refused_by : (place : ℕ) (found : UnitResult) (reason : Reason) → version_of_unit found ≡ Err reason
-    → found_then place found (λ next. end_whole) ≡ end_refused (verdict_at place reason)
-refused_by place (Ok found) reason e = absurd (let f : Ok found.0 ≡ Err reason = e in cc)
-refused_by place (Err other) reason e = let f : other ≡ reason = cc in ap (λ r. end_refused (verdict_at place r)) f
+refused_by : (offset : ℕ) (found : UnitResult) (reason : Reason) → version_of_unit found ≡ Err reason
+    → found_then offset found (λ next. end_whole) ≡ end_refused (verdict_at offset reason)
+refused_by offset (Ok found) reason e = absurd (let f : Ok found.0 ≡ Err reason = e in cc)
+refused_by offset (Err other) reason e = let f : other ≡ reason = cc in ap (λ r. end_refused (verdict_at offset r)) f
 
-nil_of : (xs : List ℕ) → length xs ≡ 0 → xs ≡ []
-nil_of [] e = refl
-nil_of (x ∷ xs) e = absurd (omega (arith, e))
-
-drop_all : (xs : List ℕ) → drop (length xs) xs ≡ []
-drop_all [] = refl
-drop_all (x ∷ xs) = drop_all xs
-
-module _ (m : KnownPosition) (nothing : unit_at (state_at m) m.held ≡ None) (bound : m.place + length m.held < 2 ^ 62)
+module _ (m : KnownPosition) (nothing : unit_at (state_at m) m.held ≡ None) (bound : m.offset + length m.held < 2 ^ 62)
     (ended : m.ended ≡ true) where
   abbrev last_found : UnitResult
   last_found = last_at (state_at m) m.held
 
   comes : (version : Option VersionData) → version_of_unit last_found ≡ Ok version
-      → rest_of_units m ≡ Some (with_input m.input (found_then m.place (Ok (version, InOpl)) (λ next. end_whole)))
-  comes version e = at_the_end m nothing bound ended ∙ ap (λ s. Some (with_input m.input s)) (found_by m.place last_found version e)
+      → rest_of_units m ≡ Some (with_input m.input (found_then m.offset (Ok (version, InOpl)) (λ next. end_whole)))
+  comes version e = at_the_end m nothing bound ended ∙ ap (λ s. Some (with_input m.input s)) (found_by m.offset last_found version e)
 
   -- a version has bytes
   last_some : (v : VersionData) → version_of_unit last_found ≡ Ok (Some v) → 0 < length m.held
@@ -347,7 +343,7 @@ module _ (m : KnownPosition) (nothing : unit_at (state_at m) m.held ≡ None) (b
         | true ↦ λ is. grind (arith, nat_tests)
         | false ↦ λ is. (
             let empty : length m.held ≡ 0 = grind (arith, nat_tests) in
-            let is_nil : m.held ≡ [] = nil_of m.held empty in
+            let is_nil : m.held ≡ [] = nil_from_length m.held empty in
             let none : Ok (Some v) ≡ Ok None =
             sym e ∙ (λ i. version_of_unit (last_at (state_or_start m.stage (is_nil i)) (is_nil i)))
             ∙ state_nothing m.stage m.held (Some v) e in
@@ -356,25 +352,25 @@ module _ (m : KnownPosition) (nothing : unit_at (state_at m) m.held ≡ None) (b
 
   -- nothing comes after them
   abbrev after_last : KnownPosition
-  after_last = record m { place = m.place + length m.held; held = drop (length m.held) m.held }
+  after_last = record m { offset = m.offset + length m.held; held = drop (length m.held) m.held }
 
   no_more : (version : Option VersionData) → version_of_unit last_found ≡ Ok version → rest_of_units after_last ≡ Some end_whole
   no_more version e =
-      let q : KnownPosition = record m { place = m.place + length m.held; held = [] } in
-      let same : after_last ≡ q = (λ i. record m { place = m.place + length m.held; held = drop_all m.held i }) in
+      let q : KnownPosition = record m { offset = m.offset + length m.held; held = [] } in
+      let same : after_last ≡ q = (λ i. record m { offset = m.offset + length m.held; held = drop-length m.held i }) in
       let found : version_of_unit (last_at (state_at q) []) ≡ Ok None = state_nothing m.stage m.held version e in
       ap rest_of_units same ∙ at_the_end q (none_in_nothing (state_at q)) (omega (arith, bound)) ended
-      ∙ ap (λ s. Some (with_input m.input s)) (found_by q.place (last_at (state_at q) []) None found)
+      ∙ ap (λ s. Some (with_input m.input s)) (found_by q.offset (last_at (state_at q) []) None found)
 
   given_last : (version : Option VersionData) → version_of_unit last_found ≡ Ok version
-      → SourceStep (rest_of_units m) (Ok (option_map (new_placed m.place) version)) (rest_of_units after_last)
+      → SourceStep (rest_of_units m) (Ok (option_map (new_placed m.offset) version)) (rest_of_units after_last)
   given_last None e = (
     subst (λ (o : Option (SourceRest Placed Fault)). IfSome o (λ s. s ≡ end_whole)) (sym (comes None e)) refl,
     no_more None e,
   )
   given_last (Some v) e =
       subst (λ (o : Option (SourceRest Placed Fault)). IfSome o
-      (λ s. (t : SourceRest Placed Fault) × (s ≡ front (new_placed m.place v) t) × (rest_of_units after_last ≡ Some t)))
+      (λ s. (t : SourceRest Placed Fault) × (s ≡ front (new_placed m.offset v) t) × (rest_of_units after_last ≡ Some t)))
       (sym (comes (Some v) e)) (
         end_whole,
         refl,
@@ -383,29 +379,30 @@ module _ (m : KnownPosition) (nothing : unit_at (state_at m) m.held ≡ None) (b
 
   -- The last bytes of a file are the last step of the reading.
   pub last_gives : m.failed ≡ false → (version : Option VersionData) (size : ℕ) (given : Option Placed) (q : KnownPosition)
-      → FindsLast last_found (Ok version) → size ≡ length m.held → given ≡ option_map (new_placed m.place) version
-      → q ≡ record m { place = m.place + size; held = drop size m.held } → SourceStep (units_or_failed m) (Ok given) (units_or_failed q)
+      → FindsLast last_found (Ok version) → size ≡ length m.held → given ≡ option_map (new_placed m.offset) version
+      → q ≡ record m { offset = m.offset + size; held = drop size m.held } → SourceStep (units_or_failed m) (Ok given) (units_or_failed q)
   last_gives fine version size given q e long is gone =
-      let same : q ≡ after_last = gone ∙ (λ i. record m { place = m.place + long i; held = drop (long i) m.held }) in
+      let same : q ≡ after_last = gone ∙ (λ i. record m { offset = m.offset + long i; held = drop (long i) m.held }) in
       subst (λ (x : KnownPosition). SourceStep (units_or_failed m) (Ok given) (units_or_failed x)) (sym same)
       (subst (λ (g : Option Placed). SourceStep (units_or_failed m) (Ok g) (units_or_failed after_last)) (sym is)
-      (still_step m after_last (Ok (option_map (new_placed m.place) version)) fine fine (given_last version e)))
+      (still_step m after_last (Ok (option_map (new_placed m.offset) version)) fine fine (given_last version e)))
 
   -- The last bytes that hold a version are one at least.
   pub last_further : (version : Option VersionData) (size : ℕ) (given : Option Placed) → FindsLast last_found (Ok version)
-      → size ≡ length m.held → given ≡ option_map (new_placed m.place) version → is_some given ≡ true → 0 < size
+      → size ≡ length m.held → given ≡ option_map (new_placed m.offset) version → is_some given ≡ true → 0 < size
   last_further None size given e long is some = absurd (false≢true (sym (ap is_some is) ∙ some))
   last_further (Some v) size given e long is some = omega (arith, long, last_some v e)
 
   -- Last bytes that are no unit refuse the units ahead.
-  pub last_refuses : (reason : Reason) (fault : Fault) → FindsLast last_found (Err reason) → fault ≡ fault_at m.input m.place reason
+  pub last_refuses : (reason : Reason) (fault : Fault) → FindsLast last_found (Err reason) → fault ≡ fault_at m.input m.offset reason
       → (fault ≡ memory_fault) ⊎ IfSome (rest_of_units m) (λ s. s ≡ end_refused fault)
   last_refuses reason fault (inl e) is = refuses m reason fault is (inl e)
   last_refuses reason fault (inr e) is =
-      let at : rest_of_units m ≡ Some (end_refused (fault_of m.input (verdict_at m.place reason))) =
-      at_the_end m nothing bound ended ∙ ap (λ s. Some (with_input m.input s)) (refused_by m.place last_found reason e) in
+      let at : rest_of_units m ≡ Some (end_refused (fault_of m.input (verdict_at m.offset reason))) =
+      at_the_end m nothing bound ended ∙ ap (λ s. Some (with_input m.input s)) (refused_by m.offset last_found reason e) in
       refuses m reason fault is
-      (inr (subst (λ (o : Option (SourceRest Placed Fault)). IfSome o (λ s. s ≡ end_refused (fault_of m.input (verdict_at m.place reason))))
+      (inr (subst (λ (o : Option (SourceRest Placed Fault)). IfSome o
+      (λ s. s ≡ end_refused (fault_of m.input (verdict_at m.offset reason))))
       (sym at)
       refl))
 

@@ -24,7 +24,7 @@ use Rattle.osm_files.specs.Stream.{Placed, SourceRest, Verdict, end_refused, ver
 use Rattle.osm_files.specs.Verdict.{is_below, is_below_last, sorted_verdict, versions_of}
 use Rattle.osm_files.proofs.GroupLaws.{ascending_is, group_joined, has, has_ascending}
 use Rattle.osm_files.proofs.HoldLaws.{below_first, members_are, source_refusal}
-use Rattle.osm_files.proofs.PlaceLaws.{Follow, input_follows}
+use Rattle.osm_files.proofs.OffsetLaws.{Follow, input_follows}
 use Rattle.osm_files.proofs.RiseLaws.{groups_rise, less_from, member, source_begins_known, source_is}
 
 -- ---- keys
@@ -111,7 +111,7 @@ module _ (v first : VersionData) (others : List VersionData) (group : IsGroup fi
 -- ---- the units before a fault
 module _ (fault : Verdict) where
   abbrev pub is_early : Placed → Bool
-  is_early unit = nat_lt unit.place fault.place
+  is_early unit = nat_lt unit.offset fault.place
 
   -- the versions of the units that begin before the fault
   abbrev pub early : List Placed → List VersionData
@@ -124,8 +124,8 @@ module _ (fault : Verdict) where
   none_early : (from : ℕ) (us : List Placed) (refusal : Option Verdict) → Follow from us refusal → fault.place ≤ from → early us ≡ []
   none_early from [] refusal h le = refl
   none_early from (u ∷ us) refusal h le =
-      early_by u us false (le-ltb u.place fault.place (omega (arith, le, h.0)))
-      ∙ none_early (u.place + 1) us refusal h.1 (omega (arith, le, h.0))
+      early_by u us false (le-ltb u.offset fault.place (omega (arith, le, h.0)))
+      ∙ none_early (u.offset + 1) us refusal h.1 (omega (arith, le, h.0))
 
   module _ (close : Option Verdict) where
     -- the units from this offset on meet the fault, if this version is before them
@@ -134,11 +134,11 @@ module _ (fault : Verdict) where
 
     module _ (before : Option VersionData) (u : Placed) (us : List Placed) (met : sorted_verdict close before (u ∷ us) ≡ Some fault) where
       met_by : (t : Bool) → is_below u.version before ≡ t
-          → cond t (Some (verdict_at u.place Unsorted)) (sorted_verdict close (Some u.version) us) ≡ Some fault
-      met_by t e = ap (λ b. cond b (Some (verdict_at u.place Unsorted)) (sorted_verdict close (Some u.version) us)) (sym e) ∙ met
+          → cond t (Some (verdict_at u.offset Unsorted)) (sorted_verdict close (Some u.version) us) ≡ Some fault
+      met_by t e = ap (λ b. cond b (Some (verdict_at u.offset Unsorted)) (sorted_verdict close (Some u.version) us)) (sym e) ∙ met
 
-      at_fault : is_below u.version before ≡ true → u.place ≡ fault.place
-      at_fault e = ap (λ v. v.place) (same_Some (verdict_at u.place Unsorted) fault (met_by true e))
+      at_fault : is_below u.version before ≡ true → u.offset ≡ fault.place
+      at_fault e = ap (λ v. v.place) (same_Some (verdict_at u.offset Unsorted) fault (met_by true e))
 
     fault_from : (from : ℕ) (us : List Placed) (before : Option VersionData) → Meets before from us → from ≤ fault.place
     fault_from from [] before m = closed_from close m
@@ -150,7 +150,7 @@ module _ (fault : Verdict) where
         elim (is_below u.version before) as (λ t. is_below u.version before ≡ t → from ≤ fault.place) [
           | true ↦ λ e. (let place = at_fault before u us m.1 e in omega (arith, place, m.0.0))
           | false ↦ λ e. (
-              let later = fault_from (u.place + 1) us (Some u.version) (m.0.1, met_by before u us m.1 false e) in
+              let later = fault_from (u.offset + 1) us (Some u.version) (m.0.1, met_by before u us m.1 false e) in
               omega (arith, later, m.0.0))
         ] refl
 
@@ -158,13 +158,13 @@ module _ (fault : Verdict) where
       pub stops : is_below u.version before ≡ true → early (u ∷ us) ≡ []
       stops e =
           let place = at_fault before u us m.1 e in
-          none_early u.place (u ∷ us) close (omega arith, m.0.1) (omega (arith, place))
+          none_early u.offset (u ∷ us) close (omega arith, m.0.1) (omega (arith, place))
 
-      pub goes_on : is_below u.version before ≡ false → (early (u ∷ us) ≡ u.version ∷ early us) × Meets (Some u.version) (u.place + 1) us
+      pub goes_on : is_below u.version before ≡ false → (early (u ∷ us) ≡ u.version ∷ early us) × Meets (Some u.version) (u.offset + 1) us
       goes_on e =
-          let on : Meets (Some u.version) (u.place + 1) us = (m.0.1, met_by before u us m.1 false e) in
-          let later = fault_from (u.place + 1) us (Some u.version) on in
-          (early_by u us true (lt-ltb u.place fault.place (omega (arith, later))), on)
+          let on : Meets (Some u.version) (u.offset + 1) us = (m.0.1, met_by before u us m.1 false e) in
+          let later = fault_from (u.offset + 1) us (Some u.version) on in
+          (early_by u us true (lt-ltb u.offset fault.place (omega (arith, later))), on)
 
     -- no key before the fault is below that of the version before it
     last_up : (from : ℕ) (us : List Placed) (v : VersionData) → Meets (Some v) from us → is_gt (key_cmp v (last_of v (early us))) ≡ false
@@ -175,7 +175,7 @@ module _ (fault : Verdict) where
           | true ↦ λ e. ap P (stops (Some v) from u us m e) ∙ ap is_gt (tied_itself key_cmp_total v)
           | false ↦ λ e. (
               let on = goes_on (Some v) from u us m e in
-              let up : is_gt (key_cmp u.version (last_of u.version (early us))) ≡ false = last_up (u.place + 1) us u.version on.1 in
+              let up : is_gt (key_cmp u.version (last_of u.version (early us))) ≡ false = last_up (u.offset + 1) us u.version on.1 in
               ap P on.0 ∙ upto key_cmp_total v u.version (last_of u.version (early us)) (not_below v u.version e) up)
         ] refl
 
@@ -189,7 +189,7 @@ module _ (fault : Verdict) where
       still_by first others u us o =
           cond (is_eq o) (still us (first ∷ (others ++ u.version ∷ [])))
           (cond (is_lt o) (versions_then (to_ascending (first ∷ others)) (still us (u.version ∷ [])))
-          (end_refused (fault_of input (verdict_at u.place Unsorted))))
+          (end_refused (fault_of input (verdict_at u.offset Unsorted))))
 
       module _ (v : VersionData) where
         abbrev GivesEarly : List Placed → VersionData → List VersionData → Type 0
@@ -207,13 +207,13 @@ module _ (fault : Verdict) where
           closed_given None is = absurd (none-some fault is)
           closed_given (Some w) is = nothing_given [] refl
 
-          next_given : (u : Placed) (us : List Placed) → (early (u ∷ us) ≡ u.version ∷ early us) × Meets (Some u.version) (u.place + 1) us
+          next_given : (u : Placed) (us : List Placed) → (early (u ∷ us) ≡ u.version ∷ early us) × Meets (Some u.version) (u.offset + 1) us
               → key_cmp first u.version ≡ Less → GivesEarly us u.version []
               → has v (to_ascending (first ∷ others) ++ (still us (u.version ∷ [])).list) ≡ is_given v ((first ∷ others) ++ early (u ∷ us))
           next_given u us on less rest =
               list_any-append (eq_by_cmp version_cmp v) (to_ascending (first ∷ others)) (still us (u.version ∷ [])).list
               ∙ (λ i. has_ascending v (first ∷ others) i || rest i)
-              ∙ group_given v first others group u.version (early us) less (last_up (u.place + 1) us u.version on.1)
+              ∙ group_given v first others group u.version (early us) less (last_up (u.offset + 1) us u.version on.1)
               ∙ ap (λ vs. is_given v ((first ∷ others) ++ vs)) (sym on.0)
 
         group_gives : (us : List Placed) (first : VersionData) (others : List VersionData) (before : VersionData) (from : ℕ)
@@ -227,11 +227,11 @@ module _ (fault : Verdict) where
               | Less ↦ λ e. (
                   let on = goes_on (Some before) from u us m (below Less e) in
                   next_given first others group u us on e
-                  (group_gives us u.version [] u.version (u.place + 1) tt (tied_itself key_cmp_total u.version) on.1))
+                  (group_gives us u.version [] u.version (u.offset + 1) tt (tied_itself key_cmp_total u.version) on.1))
               | Equal ↦ λ e. (
                   let on = goes_on (Some before) from u us m (below Equal e) in
                   let joined = group_joined first others u.version group (ap is_lt e) (ap is_gt e) in
-                  group_gives us first (others ++ u.version ∷ []) u.version (u.place + 1) joined e on.1
+                  group_gives us first (others ++ u.version ∷ []) u.version (u.offset + 1) joined e on.1
                   ∙ ap (λ vs. is_given v (first ∷ vs)) (append_assoc others (u.version ∷ []) (early us))
                   ∙ ap (λ vs. is_given v ((first ∷ others) ++ vs)) (sym on.0))
               | Greater ↦ λ e.
@@ -246,7 +246,7 @@ module _ (fault : Verdict) where
         all_given [] m = nothing_begun close m.1
         all_given (u ∷ us) m =
             let on = goes_on None 0 u us m refl in
-            group_gives us u.version [] u.version (u.place + 1) tt (tied_itself key_cmp_total u.version) on.1
+            group_gives us u.version [] u.version (u.offset + 1) tt (tied_itself key_cmp_total u.version) on.1
             ∙ ap (is_given v) (sym on.0)
 
       groups_given : (us : List Placed) → Meets None 0 us → (still us []).list ≡ to_ascending (groups_before_last (early us))

@@ -1,18 +1,19 @@
 -- The versions that groups give ascend, whatever was known before.
-use Rattle.std.proofs.Common.{◌≡◌, ◌⊎◌, ⊎_elim, inl, inr, ℕ, Bool, true, false, cond, ◌||◌, List, [], ◌∷◌, ◌++◌, refl, ap, sym, ◌∙◌, subst}
+use Rattle.std.proofs.Common.{◌≡◌, ◌⊎◌, ⊎_elim, inl, inr, ℕ, true, false, cond, ◌||◌, List, [], ◌∷◌, ◌++◌, refl, ap, sym, ◌∙◌, subst}
 use Rattle.std.proofs.Common.{Option, Some, None, option_map, option_to_list, IfSome, Result, Ok, Err}
-use Rattle.std.proofs.lemmas.Bool.{false≢true}
+use Rattle.std.proofs.lemmas.Bool.{false≢true, or_left, or_right}
 use Rattle.std.proofs.lemmas.List.{append-nil}
 use Rattle.std.specs.declared.cmp.Ordering.{Ordering}
 use Rattle.std.specs.declared.cmp.Ordering.TheVariants.{Less, Equal, Greater}
 use Rattle.std.specs.Cmp.{tied_itself}
-use Rattle.std.specs.Ordering.{eq_by_cmp, is_eq, is_lt, ordering_reverse}
+use Rattle.std.specs.Ordering.{eq_by_cmp, is_eq, ordering_reverse}
 use Rattle.std.specs.List.{AllByRecursion}
 use Rattle.std.specs.List.Sorted.{IsStrictlySortedBy}
+use Rattle.std.proofs.lemmas.Option.{IfSome_then}
 use Rattle.osm_model.specs.Data.{VersionData}
 use Rattle.osm_model.specs.Order.{key_cmp, key_cmp_total, version_cmp, version_cmp_total}
 use Rattle.osm_model.specs.Sets.{from_list}
-use Rattle.osm_model.proofs.SetLaws.{strict-listed, to_list-from_list}
+use Rattle.osm_model.proofs.SetLaws.{strict-listed, to_list-from_list, is_less}
 use Rattle.osm_model.proofs.VersionLaws.{version_cmp-IsAntisymmetric, less_by_key}
 use Rattle.osm_files.specs.declared.fault.Fault.{Fault}
 use Rattle.osm_files.specs.Fault.{memory_fault, failed_fault}
@@ -21,11 +22,10 @@ use Rattle.osm_files.specs.Groups.{still_given}
 use Rattle.osm_files.specs.Groups.{FileSourceData, FileCanGive, FileSteps, FileAscends, still_at, given_at, IsKnown, known_or_whole}
 use Rattle.osm_files.specs.Groups.{one_given}
 use Rattle.osm_files.specs.Input.{InputRest}
-use Rattle.osm_files.specs.Position.{KnownPosition, with_input, units_from, rest_of_units, units_or_failed, KeepsRest}
+use Rattle.osm_files.specs.Position.{KnownPosition, with_input, units_from, rest_of_units, units_or_failed, KeepsRest, at_start}
 use Rattle.osm_files.specs.Source.{Ascends, SourceStep, SourceSteps}
 use Rattle.osm_files.specs.Stream.{Placed, SourceRest, end_whole, end_refused, front}
-use Rattle.osm_files.proofs.FillLaws.{weaker}
-use Rattle.osm_files.proofs.GroupLaws.{has, has_ascending, ascending_is, ascending_nil}
+use Rattle.osm_files.proofs.GroupLaws.{has, has_ascending, ascending_is, ascending_nil, strict_nil, all_append}
 
 -- ---- keys
 -- the same key on the right
@@ -43,18 +43,6 @@ all_weaker : (P Q : VersionData → Type 0) (versions : List VersionData) → ((
     AllByRecursion Q versions
 all_weaker P Q [] f h = tt
 all_weaker P Q (v ∷ versions) f h = (f v h.0, all_weaker P Q versions f h.1)
-
-all_append : (P : VersionData → Type 0) (versions others : List VersionData) → AllByRecursion P versions → AllByRecursion P others →
-    AllByRecursion P (versions ++ others)
-all_append P [] others h k = k
-all_append P (v ∷ versions) others h k = (h.0, all_append P versions others h.1 k)
-
-or_left : (a b : Bool) → a ≡ true → a || b ≡ true
-or_left a b h = ap (λ x. x || b) h
-
-or_right : (a b : Bool) → b ≡ true → a || b ≡ true
-or_right true b h = refl
-or_right false b h = h
 
 tied_is : (o : Ordering) → is_eq o ≡ true → o ≡ Equal
 tied_is Less h = absurd (false≢true h)
@@ -87,10 +75,6 @@ all_ascending P versions h = all_members P (to_ascending versions) (λ v e. memb
 ascending_rises : (versions : List VersionData) → IsStrictlySortedBy version_cmp (to_ascending versions)
 ascending_rises versions = subst (IsStrictlySortedBy version_cmp) (sym (ascending_is versions))
     (strict-listed (from_list {R = version_cmp} versions))
-
-nothing_rises : IsStrictlySortedBy version_cmp []
-unfolding IsStrictlySortedBy
-nothing_rises = tt
 
 strict_append : (versions others : List VersionData) → IsStrictlySortedBy version_cmp versions → IsStrictlySortedBy version_cmp others →
     AllByRecursion (λ v. AllByRecursion (λ w. version_cmp v w ≡ Less) others) versions
@@ -141,7 +125,7 @@ group_then first next others versions group less rest = record {
 last_rises : (close : Option Fault) (first : VersionData) (others : List VersionData) → IsGroup first others →
     Rises first (last_group close (first ∷ others)).list
 last_rises None first others group = record { strict = ascending_rises (first ∷ others); above = λ v e. group_above first v others e group }
-last_rises (Some fault) first others group = record { strict = nothing_rises; above = λ v e. tt }
+last_rises (Some fault) first others group = record { strict = strict_nil; above = λ v e. tt }
 
 group_on : (first : VersionData) (others : List VersionData) (v : VersionData) → IsGroup first others → key_cmp first v ≡ Equal →
     IsGroup first (others ++ v ∷ [])
@@ -157,12 +141,12 @@ module _ (input : ℕ) (close : Option Fault) where
         | Less ↦ λ e. rw e (group_then first u.version others (groups input close us (u.version ∷ [])).list group e
             (rises us u.version [] tt))
         | Equal ↦ λ e. rw e (rises us first (others ++ u.version ∷ []) (group_on first others u.version group e))
-        | Greater ↦ λ e. rw e (record { strict = nothing_rises; above = λ v less. tt })
+        | Greater ↦ λ e. rw e (record { strict = strict_nil; above = λ v less. tt })
       ] refl
 
 end_rises : (close : Option Fault) → IsStrictlySortedBy version_cmp (last_group close []).list
 end_rises None = ascending_rises []
-end_rises (Some fault) = nothing_rises
+end_rises (Some fault) = strict_nil
 
 -- The versions that groups give ascend strictly.
 pub groups_rise : (input : ℕ) (close : Option Fault) (us : List Placed) → IsStrictlySortedBy version_cmp (groups input close us []).list
@@ -180,11 +164,6 @@ module _ (input : ℕ) (first : VersionData) (others : List VersionData) (group 
   end_given : IsStrictlySortedBy version_cmp (to_ascending (first ∷ others) ++ to_ascending [])
   end_given = rw (ascending_nil, append-nil (to_ascending (first ∷ others))) (ascending_rises (first ∷ others))
 
-less_is : (o : Ordering) → is_lt o ≡ true → o ≡ Less
-less_is Less h = refl
-less_is Equal h = absurd (false≢true h)
-less_is Greater h = absurd (false≢true h)
-
 -- groups rise after a group of one key, even if nothing was known before
 pub gathers_rise : (input : ℕ) (before : Option (SourceRest Placed Fault)) (has_begun : List VersionData)
     (after : Option (SourceRest Placed Fault))
@@ -194,7 +173,7 @@ gathers_rise input before has_begun after first others None h =
     let P : Option (SourceRest Placed Fault) → Type 0 = λ o. IfSome (still_with_ready input o [] (to_ascending (first ∷ others))) Ascends in
     subst P (sym (h.end refl)) (end_given input first others h.group)
 gathers_rise input before has_begun after first others (Some v) h =
-    next_rises input first others h.group after v (less_is (key_cmp first v) h.above)
+    next_rises input first others h.group after v (is_less (key_cmp first v) h.above)
 
 -- The versions still to come ascend strictly, also without the first one.
 pub ready_rises : (input : ℕ) (units : Option (SourceRest Placed Fault)) (group ready : List VersionData) (v : VersionData) →
@@ -210,7 +189,7 @@ pending_rises input (Some s) None = groups_rise input s.refusal s.list
 pending_rises input (Some s) (Some v) = (rises input s.refusal s.list v [] tt).strict
 
 whole_rises : (known : Option (SourceRest VersionData Fault)) → known ≡ Some end_whole → IfSome known Ascends
-whole_rises known e = let P : Option (SourceRest VersionData Fault) → Type 0 = λ o. IfSome o Ascends in subst P (sym e) nothing_rises
+whole_rises known e = let P : Option (SourceRest VersionData Fault) → Type 0 = λ o. IfSome o Ascends in subst P (sym e) strict_nil
 
 -- after the first of the ready versions
 pub rest_rises : (input : ℕ) (units : Option (SourceRest Placed Fault)) (group : List VersionData) (given : Option VersionData)
@@ -238,12 +217,8 @@ source_rises input c =
     subst Ascends (sym (source_is input c)) (let units = with_input input (units_from None 0 c) in
     groups_rise input units.refusal units.list)
 
--- a reading at its beginning
-abbrev pub beginning : ℕ → Option InputRest → KnownPosition
-beginning input rest = record { input = input; place = 0; held = []; rest = rest; stage = None; ended = false; failed = false }
-
 begins_so : (input : ℕ) (rest : Option InputRest) →
-    still_with_ready input (units_or_failed (beginning input rest)) [] [] ≡ option_map (sorted_source input) rest
+    still_with_ready input (units_or_failed (at_start input rest)) [] [] ≡ option_map (sorted_source input) rest
 begins_so input None = refl
 begins_so input (Some c) = ap Some (sym (source_is input c))
 
@@ -251,7 +226,7 @@ begins_rising : (input : ℕ) (rest : Option InputRest) → IfSome (option_map (
 begins_rising input None = tt
 begins_rising input (Some c) = source_rises input c
 
-module _ (p : KnownPosition) (ready : List VersionData) (input : ℕ) (rest : Option InputRest) (begins : p ≡ beginning input rest)
+module _ (p : KnownPosition) (ready : List VersionData) (input : ℕ) (rest : Option InputRest) (begins : p ≡ at_start input rest)
     (nothing : ready ≡ []) where
   pub source_begins : still_with_ready p.input (units_or_failed p) [] ready ≡ option_map (sorted_source input) rest
   source_begins = (λ i. still_with_ready (begins i).input (units_or_failed (begins i)) [] (nothing i)) ∙ begins_so input rest
@@ -266,7 +241,7 @@ module _ (p : KnownPosition) (ready : List VersionData) (input : ℕ) (rest : Op
   source_begins_known = set_is_known (still_with_ready p.input (units_or_failed p) [] ready) source_begins_rising ∙ source_begins
 
 -- a reading that read bytes before it gave anything
-opens_so : (input : ℕ) (rest : Option InputRest) (q : KnownPosition) → KeepsRest (beginning input rest) q →
+opens_so : (input : ℕ) (rest : Option InputRest) (q : KnownPosition) → KeepsRest (at_start input rest) q →
     IfSome rest (λ c. still_with_ready q.input (units_or_failed q) [] [] ≡ Some (sorted_source input c))
 opens_so input None q on = tt
 opens_so input (Some c) q on =
@@ -276,20 +251,20 @@ opens_so input (Some c) q on =
 
 -- A source that was opened gives the same as the sorted file's source.
 pub source_opens_known : (p q : KnownPosition) (ready : List VersionData) (input : ℕ) (rest : Option InputRest) →
-    p ≡ beginning input rest →
+    p ≡ at_start input rest →
     KeepsRest p q → ready ≡ [] → IfSome rest (λ c. still_given (option_map as_set (still_with_ready q.input (units_or_failed q) [] ready))
     ≡ Some (sorted_source input c))
 source_opens_known p q ready input rest begins on nothing =
     let rises : IfSome (still_with_ready q.input (units_or_failed q) [] ready) Ascends =
     subst (λ (xs : List VersionData). IfSome (still_with_ready q.input (units_or_failed q) [] xs) Ascends) (sym nothing)
     (pending_rises q.input (units_or_failed q) None) in
-    weaker rest _ _ (λ c e. set_is_known (still_with_ready q.input (units_or_failed q) [] ready) rises
+    IfSome_then rest (opens_so input rest q (subst (λ (x : KnownPosition). KeepsRest x q) begins on))
+    (λ c e. set_is_known (still_with_ready q.input (units_or_failed q) [] ready) rises
     ∙ (λ i. still_with_ready q.input (units_or_failed q) [] (nothing i)) ∙ e)
-    (opens_so input rest q (subst (λ (x : KnownPosition). KeepsRest x q) begins on))
 
 -- A source that can't be opened is refused as the sorted file's source is, or for Memory.
 pub opens_refused : (input : ℕ) (rest : Option InputRest) (fault : Fault) (after : Option (SourceRest Placed Fault)) →
-    SourceStep {A = Placed} (units_or_failed (beginning input rest)) (Err fault) after
+    SourceStep {A = Placed} (units_or_failed (at_start input rest)) (Err fault) after
     → (fault ≡ memory_fault) ⊎ IfSome rest (λ c. (sorted_source input c).refusal ≡ Some fault)
 opens_refused input None fault after step = ⊎_elim (λ e. inl e) (λ k. inr tt) step.0
 opens_refused input (Some c) fault after step =
@@ -323,7 +298,7 @@ step_rises (Some s) after (Ok (Some v)) known up h =
     subst P (sym h.2) (strict_rest v (h.0).list rising)
 step_rises (Some s) after (Ok None) known up h = whole_rises after h.1
 step_rises (Some s) after (Err fault) known up h = let P : Option (SourceRest VersionData Fault) → Type 0 = λ o. IfSome o Ascends in
-    subst P (sym h.1.1) nothing_rises
+    subst P (sym h.1.1) strict_nil
 
 -- a call of a source, over all that its reader can give
 pub file_step : {R : Type 0} (can : R → InputRest → Type 0) (s t : FileSourceData R) (r : Result (Option VersionData) Fault) →

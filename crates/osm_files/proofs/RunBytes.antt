@@ -1,21 +1,13 @@
 -- The bytes that a run of a file gives.
-use Rattle.std.proofs.Common.{◌≡◌, ⊎_elim, ℕ, ◌+◌, ◌-◌, ◌≤◌, min, nat_lt, false, cond, List, [], ◌++◌, length, take, drop, Some, arith}
+use Rattle.std.proofs.Common.{◌≡◌, ℕ, ◌+◌, ◌-◌, ◌≤◌, min, nat_lt, false, cond, List, [], ◌++◌, length, take, drop, Some, arith}
 use Rattle.std.proofs.Common.{sym, ap, ◌∙◌}
 use Rattle.std.proofs.Math.Seq.{take-append_seam}
-use Rattle.std.proofs.lemmas.Bool.{cases_lt}
 use Rattle.std.proofs.lemmas.Bool.Decides.{nat_tests}
-use Rattle.std.proofs.lemmas.List.{take_all, length-drop}
+use Rattle.std.proofs.lemmas.List.{length-drop, take_min}
 use Rattle.osm_files.specs.declared.sorted_run.SortedRun.{SortedRun}
 use Rattle.osm_files.specs.Input.{InputRest}
 use Rattle.osm_files.specs.SortedRun.{bytes_before, bytes_after, run_bytes}
 use Rattle.osm_files.specs.Extent.{ExtentCanGive, RunCanGive}
-
--- more bytes than there are
-take_capped : (n m : ℕ) (xs : List ℕ) → n ≡ min m (length xs) → take n xs ≡ take m xs
-take_capped n m xs is = ⊎_elim
-    (λ few. ap (λ k. take k xs) (omega (arith, is, few)))
-    (λ many. take_all n xs (omega (arith, is, many)) ∙ sym (take_all m xs (omega (arith, many))))
-    (cases_lt m (length xs))
 
 module _ (Fails : Type 0) (all : List ℕ) (start size : ℕ) (given : InputRest)
     (gives : ExtentCanGive Fails (Some all) start (min (start + size) (length all)) given) (unbroken : given.broken ≡ false) where
@@ -31,7 +23,7 @@ module _ (Fails : Type 0) (all : List ℕ) (start size : ℕ) (given : InputRest
   extent_is =
       let bytes = gives.bytes in
       sym (ap (take (length given.bytes)) bytes.1 ∙ take-append_seam given.bytes bytes.0)
-      ∙ take_capped (length given.bytes) size (drop start all) whole_length
+      ∙ ap (λ n. take n (drop start all)) whole_length ∙ take_min size (drop start all)
 
 -- A run that doesn't fail gives the run's bytes.
 pub run_given : (Fails : Type 0) (all : List ℕ) (run : SortedRun) (size : ℕ) (c : InputRest) → length all ≡ size

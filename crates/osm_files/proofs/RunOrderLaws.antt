@@ -1,7 +1,7 @@
 -- The order of a run's versions, and the refusals of a run, by what its input gave.
 use Rattle.std.proofs.Common.{◌≡◌, ◌⊎◌, inl, inr, ⊎_elim, ℕ, ◌+◌, ◌-◌, ◌≤◌, ◌<◌, ◌^◌, nat_lt, Bool, true, false, cond, List, []}
 use Rattle.std.proofs.Common.{◌∷◌, ◌++◌, length, take, refl, sym, ap, ◌∙◌, subst, arith, Option, Some, None, option_map}
-use Rattle.std.proofs.Common.{append-nil, append_assoc, length-append, length-drop, drop, min}
+use Rattle.std.proofs.Common.{append-nil, append_assoc, length-append, length-drop, min}
 use Rattle.std.proofs.Math.Seq.{take-append-add}
 use Rattle.std.proofs.lemmas.Bool.{cases_lt, false≢true, ltb-true}
 use Rattle.std.proofs.lemmas.Bool.Decides.{nat_tests}

@@ -5,6 +5,7 @@ use Rattle.std.proofs.Common.{append_assoc, length-drop}
 use Rattle.std.proofs.Math.Seq.{take-append-add}
 use Rattle.std.proofs.lemmas.Bool.{cases_lt}
 use Rattle.std.proofs.lemmas.List.{take_all}
+use Rattle.std.proofs.CharBoundary.{drop_past_prefix}
 use Rattle.osm_files.specs.declared.fault.Fault.{Fault}
 use Rattle.osm_files.specs.declared.set_order.SetOrder.{SetOrder}
 use Rattle.osm_files.specs.declared.set_order.SetOrder.TheVariants.{Rises, Falls, Unknown}
@@ -15,7 +16,6 @@ use Rattle.osm_files.specs.O5.{o5m_header, end_byte}
 use Rattle.osm_files.specs.ReadAt.{AreAt}
 use Rattle.osm_files.specs.SetOrder.{HasHeader, HasEnd, IsOrderOfSets, IsOrderOfRun}
 use Rattle.osm_files.specs.SortedRun.{bytes_before, bytes_after, run_bytes, is_reset}
-use Rattle.osm_files.proofs.ExtentLaws.{after_front}
 use Rattle.osm_files.proofs.FileLaws.{Header, header_long}
 use Rattle.osm_files.proofs.SplitLaws.{slice_get-drop}
 
@@ -60,7 +60,7 @@ header_there all run header lacks is at =
     (let same : run.start ≡ run.start + 0 = omega arith in ap (slice_get all) same) ∙ sym (slice_get-drop run.start all 0)
     ∙ ap (λ xs. slice_get xs 0) at.1 in
     let rest : drop (run.start + 7) all ≡ at.0 =
-    ap (λ n. drop (run.start + n) all) (sym long) ∙ after_front all header at.0 run.start at.1 in
+    ap (λ n. drop (run.start + n) all) (sym long) ∙ drop_past_prefix all header at.0 run.start at.1 in
     record {
       header = header;
       is_header = is;

@@ -130,11 +130,11 @@ sets_at all start sets is =
     subst (SetsTo all start) (sym is) here
 
 -- The sets up to an offset are keyed from the start.
-pub keyed_up_to : (known : Option (List ℕ)) (start end place : ℕ) (sets : RisingSets) → sets.end - start ≡ place - start
+pub keyed_up_to : (known : Option (List ℕ)) (start end offset : ℕ) (sets : RisingSets) → sets.end - start ≡ offset - start
     → IfSome known (λ all. end ≤ length all → SetsTo all start sets)
-    → IfSome known (λ all. end ≤ length all → StartKeyedSets (bytes_between all start place))
-keyed_up_to None start end place sets same done = tt
-keyed_up_to (Some all) start end place sets same done = λ long. (
+    → IfSome known (λ all. end ≤ length all → StartKeyedSets (bytes_between all start offset))
+keyed_up_to None start end offset sets same done = tt
+keyed_up_to (Some all) start end offset sets same done = λ long. (
   sets.base,
   sets.last,
   subst (λ n. AreKeyedSets (pos 0) None (take n (drop start all)) sets.base sets.last) same (done long).keyed,

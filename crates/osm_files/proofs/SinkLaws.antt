@@ -93,14 +93,14 @@ module _ (output : ℕ) (change : Change) where
       (cut_in (open_file_bytes format vs) rest fault h)
 
 -- The first items of a list and the next one are one item more.
-pub front_at : (xs : List VersionData) (i : ℕ) (v : VersionData) → i < length xs → v ≡ get_or xs i v
-    → take i xs ++ v ∷ [] ≡ take (i + 1) xs
-front_at xs i v within is = ap (λ x. take i xs ++ x ∷ []) is ∙ sym (take_more xs i v within)
+pub front_at : {X : Type 0} (xs : List X) (i : ℕ) (x : X) → i < length xs → x ≡ get_or xs i x
+    → take (i + 1) xs ≡ take i xs ++ x ∷ []
+front_at xs i x within is = take_more xs i x within ∙ ap (λ y. take i xs ++ y ∷ []) (sym is)
 
 -- the versions before an index, the one at it, and those after it
 pub parts_at : (xs : List VersionData) (i : ℕ) (v : VersionData) → i < length xs → v ≡ get_or xs i v
     → (take i xs ++ v ∷ []) ++ drop (i + 1) xs ≡ xs
-parts_at xs i v within is = ap (λ x. x ++ drop (i + 1) xs) (front_at xs i v within is) ∙ take-append-drop (i + 1) xs
+parts_at xs i v within is = ap (λ x. x ++ drop (i + 1) xs) (sym (front_at xs i v within is)) ∙ take-append-drop (i + 1) xs
 
 -- ---- the calls
 abbrev at_front : Format → ℕ → WriterState → ℕ → SinkState

@@ -1,9 +1,12 @@
 -- The sizes of data sets: a size that is spelled is read, and a size that was read is spelled.
-use Rattle.std.proofs.Common.{◌≡◌, ℕ, suc, ◌+◌, ◌-◌, ◌≤◌, Bool, true, false, cond, List, [], ◌∷◌, ◌++◌, length}
-use Rattle.std.proofs.Common.{drop, take, refl, sym, ap, ◌∙◌, subst, arith, Option, Some, None, Result, Ok, length-append}
+use Rattle.std.proofs.Common.{◌≡◌, ℕ, suc, ◌+◌, ◌-◌, ◌≤◌, true, List, [], ◌∷◌, ◌++◌, length}
+use Rattle.std.proofs.Common.{drop, take, refl, sym, ap, ◌∙◌, subst, arith, Option, Some, Result, Ok, length-append}
 use Rattle.std.proofs.Common.{◌||◌, nat_lt, take-append-drop, length-take}
 use Rattle.std.specs.List.{list_any}
 use Rattle.std.proofs.lemmas.Bool.{lt-ltb}
+use Rattle.std.proofs.Math.Bool.{or-true}
+use Rattle.std.proofs.Math.Seq.{drop-append-add, take-append_seam, drop-append_seam}
+use Rattle.std.proofs.lemmas.Option.{cond_some}
 use Rattle.o5_codec.specs.declared.reason.O5Reason.{O5Reason}
 use Rattle.o5_codec.specs.Number.{AreGroups, SpellsNumber, number_at}
 use Rattle.o5_codec.proofs.NumberLaws.{number_found, number_only}
@@ -16,15 +19,11 @@ pub record Sized (bytes : List ℕ) (content rest : List ℕ) : Type 0 where
   pub spelled : SpellsNumber size (length content)
   pub split : bytes ≡ size ++ (content ++ rest)
 
-or_true : (x : Bool) → x || true ≡ true
-or_true true = refl
-or_true false = refl
-
 groups_ended : (size rest : List ℕ) (n : ℕ) → AreGroups size n → list_any is_last (size ++ rest) ≡ true
 groups_ended [] rest n groups = absurd groups
 groups_ended (b ∷ []) rest n groups = rw (lt-ltb b 128 groups.0) refl
 groups_ended (b ∷ c ∷ size) rest n groups = ap (λ t. nat_lt b 128 || t) (groups_ended (c ∷ size) rest groups.1.0 groups.1.2)
-    ∙ or_true (nat_lt b 128)
+    ∙ or-true (nat_lt b 128)
 
 -- the size of a data set is read if it is spelled
 pub length_read : (bytes content rest : List ℕ) → Sized bytes content rest → length_at bytes ≡ Some (Ok (length content, content ++ rest))
@@ -32,18 +31,10 @@ length_read bytes content rest h =
     let after : List ℕ = content ++ rest in
     let ended : is_ended (h.size ++ after) ≡ true =
     ap (λ t. nat_lt 10 (length (h.size ++ after)) || t) (groups_ended h.size after (length content) h.spelled.groups)
-    ∙ or_true (nat_lt 10 (length (h.size ++ after))) in
+    ∙ or-true (nat_lt 10 (length (h.size ++ after))) in
     let number : number_at (h.size ++ after) ≡ Ok (length content, after) =
     number_only (h.size ++ after) (length content, after) (h.size, h.spelled, refl) in
     ap length_at h.split ∙ rw (ended, number) refl
-
-by_ended : (ended : Bool) (number x : Result (ℕ × List ℕ) O5Reason) → cond ended (Some number) None ≡ Some x → number ≡ x
-by_ended true number x e = (let f : Some number ≡ Some x = e in cc)
-by_ended false number x e = absurd (let f : None ≡ Some x = e in cc)
-
-drop_front : (first rest : List ℕ) (n : ℕ) → drop (length first + n) (first ++ rest) ≡ drop n rest
-drop_front [] rest n = let e : 0 + n ≡ n = omega arith in rw e refl
-drop_front (a ∷ first) rest n = let e : length (a ∷ first) + n ≡ suc (length first + n) = omega arith in rw e (drop_front first rest n)
 
 -- a length that was read is spelled at the front
 pub record LengthFound (b : ℕ) (bytes : List ℕ) (n : ℕ) (after : List ℕ) : Type 0 where
@@ -56,14 +47,14 @@ pub record LengthFound (b : ℕ) (bytes : List ℕ) (n : ℕ) (after : List ℕ)
 pub length_found : (b : ℕ) (bytes : List ℕ) (n : ℕ) (after : List ℕ) → length_at bytes ≡ Some (Ok (n, after)) →
     LengthFound b bytes n after
 length_found b bytes n after e =
-    let found = number_found bytes (n, after) (by_ended (is_ended bytes) (number_at bytes) (Ok (n, after)) e) in
+    let found = number_found bytes (n, after) (cond_some (is_ended bytes) (number_at bytes) (Ok (n, after)) e).1 in
     let far : 1 + (length bytes - length after) + n ≡ suc (length found.0 + n) =
     omega (arith, ap length found.2, length-append found.0 after) in
     record {
       size = found.0;
       spelled = found.1;
       split = found.2;
-      rest = rw far (ap (drop (length found.0 + n)) found.2 ∙ drop_front found.0 after n);
+      rest = rw far (ap (drop (length found.0 + n)) found.2 ∙ drop-append-add found.0 after n);
     }
 
 -- the content has the length that is spelled
@@ -82,14 +73,6 @@ pub record SameSize (n : ℕ) (after content rest : List ℕ) : Type 0 where
   pub within : n ≤ length after
   pub content_is : take n after ≡ content
   pub rest_is : drop n after ≡ rest
-
-take_all_of : (content rest : List ℕ) → take (length content) (content ++ rest) ≡ content
-take_all_of [] rest = refl
-take_all_of (b ∷ content) rest = ap (λ x. b ∷ x) (take_all_of content rest)
-
-drop_all_of : (content rest : List ℕ) → drop (length content) (content ++ rest) ≡ rest
-drop_all_of [] rest = refl
-drop_all_of (b ∷ content) rest = drop_all_of content rest
 
 abbrev pub Length : Type 0
 Length = Option (Result (ℕ × List ℕ) O5Reason)
@@ -112,6 +95,6 @@ same_size bytes n after content rest e sized =
     let g : after ≡ content ++ rest = both.1 in
     record {
       within = omega (arith, m, ap length g, length-append content rest);
-      content_is = (λ i. take (m i) (g i)) ∙ take_all_of content rest;
-      rest_is = (λ i. drop (m i) (g i)) ∙ drop_all_of content rest;
+      content_is = (λ i. take (m i) (g i)) ∙ take-append_seam content rest;
+      rest_is = (λ i. drop (m i) (g i)) ∙ drop-append_seam content rest;
     }

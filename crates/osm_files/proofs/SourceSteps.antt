@@ -128,13 +128,13 @@ module _ {R : Type 0} (can : R → InputRest → Type 0) where
 
       -- A source stays open after a group was gathered.
       pub gathered_open : q.input ≡ p.input → q.failed ≡ false → IsOpenSource can (source_data q (option_to_list next) ready)
-      gathered_open number fine = (
+      gathered_open input fine = (
         λ later k.
             let y = gathers later k in
             let up = gathers_rise p.input (units_or_failed (with_rest p y.0)) has_begun.others.items
             (units_or_failed (with_rest q later)) has_begun.first group.others.items next y.2 in
             let at_q = subst (λ (i : ℕ). IfSome (still_with_ready i (units_or_failed (with_rest q later)) (option_to_list next)
-            (to_ascending (has_begun.first ∷ group.others.items))) Ascends) (sym number) up in
+            (to_ascending (has_begun.first ∷ group.others.items))) Ascends) (sym input) up in
             rest_rises q.input (units_or_failed (with_rest q later)) (option_to_list next) given ready
             (subst (λ (xs : List VersionData). IfSome (still_with_ready q.input (units_or_failed (with_rest q later))
             (option_to_list next) xs)
@@ -223,7 +223,7 @@ module _ {R : Type 0} (can : R → InputRest → Type 0) where
 
       -- A version before one of a lesser key is refused as Unsorted.
       pub second_falls : (fault : Fault) (t : FileSourceData R) → t.units ≡ record n { failed = true } → t.ready ≡ [] →
-          is_gt (key_cmp first u.version) ≡ true → fault ≡ fault_at s.units.input u.place Unsorted → FileSteps can s (Err fault) t
+          is_gt (key_cmp first u.version) ≡ true → fault ≡ fault_at s.units.input u.offset Unsorted → FileSteps can s (Err fault) t
       second_falls fault t failed none greater is =
           after_first t (Err fault) Fails (fails t.units failed) (λ p q (m, h, e).
           refused_at s.units.input (given_from p (first ∷ [])) q t.group t.ready fault none
@@ -234,7 +234,7 @@ module _ {R : Type 0} (can : R → InputRest → Type 0) where
       pub second_joins : (r : Result (Option VersionData) Fault) (t : FileSourceData R) → n.input ≡ s.units.input →
           is_lt (key_cmp first u.version) ≡ false → is_gt (key_cmp first u.version) ≡ false →
           FileSteps can (source_data n (first ∷ u.version ∷ []) []) r t → FileSteps can s r t
-      second_joins r t number less greater many later k =
+      second_joins r t input less greater many later k =
           let z = many later k in
           let y = step z.0 z.1 in
           let x = begins y.0 y.1 in
@@ -245,5 +245,5 @@ module _ {R : Type 0} (can : R → InputRest → Type 0) where
           let keeps = subst (λ (xs : List VersionData). Keeps
           (still_with_ready s.units.input (units_or_failed (with_rest s.units x.0)) s.group xs) before) (sym nothing) x.2 in
           let given = subst (λ (i : ℕ). SourceStep (still_with_ready i (units_or_failed (with_rest n z.0)) (first ∷ u.version ∷ []) []) r
-          (still_at i t later)) number z.2 in
+          (still_at i t later)) input z.2 in
           (x.0, x.1, step_on (start x.0) after (still_at s.units.input t later) r (keeps_on (start x.0) before after keeps joins) given)

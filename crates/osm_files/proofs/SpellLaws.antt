@@ -1,5 +1,5 @@
 -- The file of a set is read as the set.
-use Rattle.std.proofs.Common.{◌≡◌, ℕ, suc, ◌+◌, ◌<◌, ◌^◌, Bool, true, false, not, cond, ◌||◌, ◌==◌, ◌⊎◌, List, [], ◌∷◌, ◌++◌, length, take}
+use Rattle.std.proofs.Common.{◌≡◌, ℕ, suc, ◌+◌, ◌<◌, ◌^◌, Bool, true, false, not, cond, ◌||◌, ◌⊎◌, List, [], ◌∷◌, ◌++◌, length, take}
 use Rattle.std.proofs.Common.{filter, get_or, refl, sym, ap, subst, ◌∙◌, arith, append_assoc, length-append, inl, inr, Some, None, is_some}
 use Rattle.std.proofs.lemmas.List.{append-nil}
 use Rattle.std.proofs.Math.Seq.{take-append_seam, get_or-append_seam}
@@ -11,10 +11,11 @@ use Rattle.std.specs.List.Sorted.{IsSorted, IsStrictlySortedBy}
 use Rattle.std.specs.declared.cmp.Ordering.TheVariants.{Less, Equal, Greater}
 use Rattle.std.specs.Ordering.{is_lt, is_eq, ordering_reverse, eq_by_cmp}
 use Rattle.std.proofs.lemmas.Map.Keys.{Less-from_sorted}
+use Rattle.std.proofs.Math.Bool.{or_comm, or_assoc, or_self, or-false}
+use Rattle.std.proofs.lemmas.Bool.{or_cases}
 use Rattle.osm_model.specs.declared.kind.Kind as kind_type
 use Rattle.osm_model.specs.declared.kind.Kind.TheVariants as kind
 use Rattle.osm_model.specs.Data.{VersionData, kind_of}
-use Rattle.osm_model.specs.Kind.{kind_letter}
 use Rattle.osm_model.specs.Line.{line}
 use Rattle.osm_model.specs.Order.{version_cmp, version_cmp_total, key_cmp, key_cmp_total}
 use Rattle.osm_model.specs.Valid.{IsVersion}
@@ -35,7 +36,7 @@ use Rattle.o5_codec.proofs.WrittenLists.{lists_read}
 use Rattle.osm_files.specs.declared.format.Format.{Format}
 use Rattle.osm_files.specs.declared.format.Format.TheVariants.{Opl, O5m, O5c}
 use Rattle.osm_files.specs.Opl.{is_read, OplFile}
-use Rattle.osm_files.specs.O5.{o5m_header, o5c_header, end_byte, reset_byte, type_byte, FilePart, Reset, Object, part_bytes, PartsSpell}
+use Rattle.osm_files.specs.O5.{o5m_header, o5c_header, end_byte, type_byte, FilePart, Reset, Object, part_bytes, PartsSpell}
 use Rattle.osm_files.specs.O5.{O5File}
 use Rattle.osm_files.specs.Units.{FileStateData, InOpl, BeforeHeader, start_of}
 use Rattle.osm_files.specs.Held.{IsFile, IsFileOf, Holds}
@@ -48,6 +49,8 @@ use Rattle.osm_files.specs.SpellLaws.{UnionsAreVersions, EachMayFollow, ListIsSp
 use Rattle.osm_files.proofs.FileLaws.{one_list, files_are_read, accepted_without_verdict}
 use Rattle.osm_files.proofs.RangeLaws.{files_hold_versions}
 use Rattle.osm_files.proofs.SpellSteps.{first_so, then_greater, may_follow, list_split}
+use Rattle.osm_files.proofs.LoadFormats.{letter_is_no_mark}
+use Rattle.osm_files.proofs.HoldLaws.{set_listed}
 
 -- ---- lines
 cut_line : (front rest : List ℕ) → list_all (λ b. not (is_line_end b)) front ≡ true →
@@ -120,15 +123,10 @@ sets_file header versions begins valid small =
       spelled = h.2;
     }
 
-letter_is_no_reset : (k : kind_type.Kind) → (kind_letter k == reset_byte) ≡ false
-letter_is_no_reset kind.Node = refl
-letter_is_no_reset kind.Way = refl
-letter_is_no_reset kind.Relation = refl
-
 lines_start : (w : WriterState) (versions : List VersionData) → start_of (versions_bytes Opl w versions) ≡ InOpl
 unfolding line
 lines_start w [] = refl
-lines_start w (v ∷ versions) = ap (λ t. cond t BeforeHeader InOpl) (letter_is_no_reset (kind_of v.body))
+lines_start w (v ∷ versions) = ap (λ t. cond t BeforeHeader InOpl) (letter_is_no_mark (kind_of v.body))
 
 small_sets : (header sets : List ℕ) → length ((header ++ sets) ++ end_byte ∷ []) < 2 ^ 62 → length sets < 2 ^ 64
 small_sets header sets short = omega (arith, short, length-append (header ++ sets) (end_byte ∷ []), length-append header sets)
@@ -167,11 +165,6 @@ keys_rise : (xs : List VersionData) → IsStrictlySortedBy version_cmp xs → Is
 keys_rise xs h = λ k d low high. key_not_below (get_or xs k d) (get_or xs (k + 1) d)
     (Less-from_sorted version_cmp xs k (k + 1) d h (omega arith) high)
 
--- A set is the set of its list.
-pub listed_members : (s : VersionSet) → s ≡ from_list (to_list s)
-listed_members s = same_set version_cmp_total version_cmp-IsAntisymmetric s (from_list (to_list s))
-    (λ q. contains-listed s q ∙ sym (contains-from_list version_cmp_total (to_list s) q))
-
 -- The file of a set of versions, if it is below 2^62 bytes, is sorted and holds the set.
 pub spell_holds : SpellHoldsItsSet
 spell_holds f s valid short = record {
@@ -179,7 +172,7 @@ spell_holds f s valid short = record {
   versions = to_list s;
   file = spelled_file f (to_list s) valid short;
   sorted = keys_rise (to_list s) (strict-listed s);
-  members = listed_members s;
+  members = sym (set_listed s);
 }
 
 -- A file holds one set.
@@ -188,25 +181,8 @@ held_is_one_set bytes one other h g = h.members ∙ ap (λ xs. from_list {R = ve
     (one_list bytes h.versions g.versions h.file g.file) ∙ sym g.members
 
 -- ---- joins
-or_turned : (a b : Bool) → (a || b) ≡ (b || a)
-or_turned true true = refl
-or_turned true false = refl
-or_turned false true = refl
-or_turned false false = refl
-
-pub or_grouped : (a b c : Bool) → ((a || b) || c) ≡ (a || (b || c))
-or_grouped true b c = refl
-or_grouped false b c = refl
-
-or_repeated : (a : Bool) → (a || a) ≡ (a || false)
-or_repeated true = refl
-or_repeated false = refl
-
-abbrev holds_one : VersionSet → VersionData → Bool
-holds_one s q = contains s q
-
-in_both : (s t : VersionSet) (q : VersionData) → contains (union s t) q ≡ (holds_one s q || holds_one t q)
-in_both s t q = contains-union version_cmp_total s t q
+pub in_union : (s t : VersionSet) (v : VersionData) → contains (union s t) v ≡ (contains s v || contains t v)
+in_union s t v = contains-union version_cmp_total s t v
 
 pub equal_sets : (s t : VersionSet) → ((q : VersionData) → contains s q ≡ contains t q) → s ≡ t
 equal_sets s t h = same_set version_cmp_total version_cmp-IsAntisymmetric s t h
@@ -214,23 +190,24 @@ equal_sets s t h = same_set version_cmp_total version_cmp-IsAntisymmetric s t h
 -- The file of a union doesn't depend on the order of the sets.
 pub join_in_any_order : JoinInAnyOrder
 join_in_any_order f a b = ap (spell f) (equal_sets (union a b) (union b a)
-    (λ q. in_both a b q ∙ or_turned (holds_one a q) (holds_one b q) ∙ sym (in_both b a q)))
+    (λ q. in_union a b q ∙ or_comm (contains a q) (contains b q) ∙ sym (in_union b a q)))
 
-none_in_empty : (q : VersionData) → holds_one empty q ≡ false
-none_in_empty q = ap is_some (get-empty version_cmp q)
+-- The empty set has no member.
+pub in_none : (v : VersionData) → contains {R = version_cmp} empty v ≡ false
+in_none v = ap is_some (get-empty {X = Unit {0}} version_cmp v)
 
 -- The union of a set with itself has the file of its union with the empty set.
 pub join_repeated : JoinRepeated
 join_repeated f a = ap (spell f) (equal_sets (union a a) (union a empty)
-    (λ q. in_both a a q ∙ or_repeated (holds_one a q) ∙ ap (λ (b : Bool). holds_one a q || b) (sym (none_in_empty q))
-    ∙ sym (in_both a empty q)))
+    (λ q. in_union a a q ∙ or_self (contains a q) ∙ sym (or-false (contains a q)) ∙ ap (λ (b : Bool). contains a q || b) (sym (in_none q))
+    ∙ sym (in_union a empty q)))
 
-grouped : (a b c : VersionSet) → union (union a b) c ≡ union a (union b c)
+pub grouped : (a b c : VersionSet) → union (union a b) c ≡ union a (union b c)
 grouped a b c =
     equal_sets (union (union a b) c) (union a (union b c)) (λ q.
-    in_both (union a b) c q ∙ ap (λ (x : Bool). x || holds_one c q) (in_both a b q)
-    ∙ or_grouped (holds_one a q) (holds_one b q) (holds_one c q)
-    ∙ ap (λ (x : Bool). holds_one a q || x) (sym (in_both b c q)) ∙ sym (in_both a (union b c) q))
+    in_union (union a b) c q ∙ ap (λ (x : Bool). x || contains c q) (in_union a b q)
+    ∙ or_assoc (contains a q) (contains b q) (contains c q)
+    ∙ ap (λ (x : Bool). contains a q || x) (sym (in_union b c q)) ∙ sym (in_union a (union b c) q))
 
 member_of_list : (xs : List VersionData) (q : VersionData) → All IsVersion xs → list_any (eq_by_cmp version_cmp q) xs ≡ true → IsVersion q
 member_of_list xs q valid h =
@@ -251,15 +228,11 @@ contains_itself s k d within =
 pub are_versions : (s : VersionSet) → ((q : VersionData) → contains s q ≡ true → IsVersion q) → AreVersions s
 are_versions s members = λ k d within. members (get_or (to_list s) k d) (contains_itself s k d within)
 
-pub either : (a b : Bool) → (a || b) ≡ true → (a ≡ true) ⊎ (b ≡ true)
-either true b h = inl refl
-either false b h = inr h
-
 -- The union of two sets of versions is a set of versions.
 pub unions_are_versions : UnionsAreVersions
 unions_are_versions a b valid others =
-    are_versions (union a b) (λ x h. elim (either (holds_one a x) (holds_one b x)
-    (sym (in_both a b x) ∙ h)) [ inl left ↦ member_is a x valid left | inr right ↦ member_is b x others right ])
+    are_versions (union a b) (λ x h. elim (or_cases (contains a x) (contains b x)
+    (sym (in_union a b x) ∙ h)) [ inl left ↦ member_is a x valid left | inr right ↦ member_is b x others right ])
 
 -- a part of a set of versions is a set of versions
 pub are_fewer : (a b : VersionSet) → AreVersions a → ((q : VersionData) → contains b q ≡ true → contains a q ≡ true) → AreVersions b

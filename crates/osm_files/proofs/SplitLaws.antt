@@ -2,8 +2,9 @@
 use Rattle.std.proofs.Common.{◌≡◌, inl, inr, ℕ, zero, suc, ◌+◌, ◌-◌, ◌^◌, ◌<◌, ◌&&◌, ◌||◌, Bool, true, false, not, cond, List, [], ◌∷◌}
 use Rattle.std.proofs.Common.{◌++◌, length, map, take, drop, slice_get, refl, sym, ap, ◌∙◌, subst, arith, Option, Some, None, is_some}
 use Rattle.std.proofs.Common.{append-nil, append_assoc, nat_lt}
-use Rattle.std.proofs.lemmas.Bool.{false≢true, true≢false, and_parts, ltb-true, eqb-true, not-true}
+use Rattle.std.proofs.lemmas.Bool.{false≢true, and_parts, ltb-true, eqb-true, not-true, or_parts}
 use Rattle.std.proofs.lemmas.List.{drop-drop, map-append, take_all}
+use Rattle.std.proofs.Math.Seq.{take-add}
 use Rattle.opl_line.specs.Delimiter.{is_line_end}
 use Rattle.osm_files.specs.declared.sorted_run.BytesAtSplit.{BytesAtSplit}
 use Rattle.osm_files.specs.declared.sorted_run.SortedRun.{SortedRun}
@@ -20,14 +21,6 @@ slice_get-drop zero xs i = ap (slice_get xs) (omega arith)
 slice_get-drop (suc n) [] i = refl
 slice_get-drop (suc n) (x ∷ xs) i = let e : suc (n + i) ≡ suc n + i = omega arith in slice_get-drop n xs i ∙ ap (slice_get (x ∷ xs)) e
 
-take-add : (n m : ℕ) (xs : List ℕ) → take (n + m) xs ≡ take n xs ++ take m (drop n xs)
-take-add zero m xs = ap (λ n. take n xs) (omega arith)
-take-add (suc n) zero [] = let e : suc n + 0 ≡ suc n = omega arith in ap (λ k. take k []) e
-take-add (suc n) (suc m) [] = let e : suc n + suc m ≡ suc (n + suc m) = omega arith in ap (λ k. take k []) e
-take-add (suc n) m (x ∷ xs) =
-    let e : suc n + m ≡ suc (n + m) = omega arith in
-    ap (λ k. take k (x ∷ xs)) e ∙ ap (λ ys. x ∷ ys) (take-add n m xs)
-
 -- The bytes up to one more byte.
 pub take_one : (xs : List ℕ) (i b : ℕ) → slice_get xs i ≡ Some b → take (suc i) xs ≡ take i xs ++ b ∷ []
 take_one [] i b e = absurd (let f : None ≡ Some b = e in cc)
@@ -42,10 +35,6 @@ some_end (Some b) e = (b, refl, e)
 some_reset : (o : Option ℕ) → is_reset o ≡ true → o ≡ Some reset_byte
 some_reset None e = absurd (false≢true e)
 some_reset (Some b) e = ap Some (eqb-true b reset_byte e)
-
-pub neither : (x y : Bool) → x || y ≡ false → (x ≡ false) × (y ≡ false)
-neither true y e = absurd (true≢false e)
-neither false y e = (refl, e)
 
 lines_start : (part : List ℕ) (i : ℕ) → is_some (slice_get part i) ≡ true → is_reset (slice_get part 0) ≡ false
     → start_of (take (suc i) part ++ []) ≡ InOpl
@@ -141,7 +130,7 @@ module _ (run : SortedRun) (offset : ℕ) (bytes : BytesAtSplit) (file : List �
   opl : is_some bytes.at ≡ true → is_o5_run run bytes ≡ false → splits_opl bytes ≡ true
       → SplitAfterLine (run_bytes (front_run false run offset) file) (run_bytes (rest_run false run offset) file) (run_bytes run file)
   opl some is can =
-      let no = neither run.lacks_header (is_reset bytes.first) is in
+      let no = or_parts run.lacks_header (is_reset bytes.first) is in
       let ends = and_parts (ends_line bytes.before) (not (is_reset bytes.at)) can in
       let b = some_end bytes.before ends.0 in
       let split = after_line part i m b.0 (bytes_after run) (before_is ∙ b.1) b.2 (ap is_reset first_is ∙ no.1) (ap is_some at_is ∙ some)

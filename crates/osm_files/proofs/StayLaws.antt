@@ -6,6 +6,8 @@ use Rattle.std.specs.List.{list_any}
 use Rattle.std.proofs.lemmas.Bool.{false≢true, ltb-true, ltb-false, leb-true, lt-ltb}
 use Rattle.std.proofs.lemmas.Bool.Decides.{nat_tests}
 use Rattle.std.proofs.lemmas.List.{take-append-le}
+use Rattle.std.proofs.Math.Bool.{or-true}
+use Rattle.std.proofs.lemmas.Option.{none-some}
 use Rattle.opl_line.specs.Delimiter.{is_line_end, with_byte, split_first}
 use Rattle.o5_codec.specs.declared.reason.O5Reason.{O5Reason}
 use Rattle.o5_codec.specs.declared.reason.O5Reason.TheVariants.{BadNumber}
@@ -18,7 +20,6 @@ use Rattle.osm_files.specs.O5.{end_byte, reset_byte, is_lone, kind_of_type}
 use Rattle.osm_files.specs.Units.{FileStateData, InOpl, BeforeHeader, InSegment, PastEnd, FileUnit, unit, no_version, line_unit}
 use Rattle.osm_files.specs.Units.{header_unit}
 use Rattle.osm_files.specs.Units.{is_header, content_found, is_last, is_ended, length_at, sized_unit, segment_unit, unit_after_end, unit_at}
-use Rattle.osm_files.proofs.UnitLaws.{some_is_not_none}
 use Rattle.osm_files.proofs.SizeLaws.{length_found}
 
 abbrev Split : Type 0
@@ -32,7 +33,7 @@ module _ (p : ℕ → Bool) where
 
   split_more : (bytes more rest : List ℕ) → (split_first p bytes).1 ≡ Some rest →
       split_first p (bytes ++ more) ≡ ((split_first p bytes).0, Some (rest ++ more))
-  split_more [] more rest e = absurd (some_is_not_none rest (sym e))
+  split_more [] more rest e = absurd (none-some rest e)
   split_more (b ∷ bytes) more rest f =
       elim (p b) as (λ t. (cond t ([], Some bytes) (with_byte b (split_first p bytes))).1 ≡ Some rest →
       cond t ([], Some (bytes ++ more)) (with_byte b (split_first p (bytes ++ more)))
@@ -46,7 +47,7 @@ Stays unit_of bytes more = (u : FileUnit) → unit_of bytes ≡ Some u → unit_
 
 by_split : (s t : Split) (more : List ℕ) (u : FileUnit) → ((rest : List ℕ) → s.1 ≡ Some rest → t ≡ (s.0, Some (rest ++ more))) →
     line_unit s ≡ Some u → line_unit t ≡ Some u
-by_split (line, None) t more u on e = absurd (some_is_not_none u (sym e))
+by_split (line, None) t more u on e = absurd (none-some u e)
 by_split (line, Some rest) t more u on e = ap line_unit (on rest refl) ∙ e
 
 line_stays : (bytes more : List ℕ) → Stays (λ x. line_unit (split_first is_line_end x)) bytes more
@@ -58,7 +59,7 @@ header_stays bytes more u =
     elim (nat_lt (length bytes) 7) as (λ t. nat_lt (length bytes) 7 ≡ t →
     cond t None (Some (unit 7 (cond (is_header (take 7 bytes)) (no_version (InSegment new_segment)) (Err BadHeader)))) ≡ Some u →
     header_unit (bytes ++ more) ≡ Some u) [
-      | true ↦ λ is e. absurd (some_is_not_none u (sym e))
+      | true ↦ λ is e. absurd (none-some u e)
       | false ↦ λ is e. (
           let long : 7 ≤ length bytes = ltb-false (length bytes) 7 is in
           let longer : nat_lt (length (bytes ++ more)) 7 ≡ false =
@@ -107,10 +108,6 @@ groups_stay (suc room) (b ∷ bytes) more h =
           ∙ low_more (b - 128) more (groups_at room bytes)
     ] refl
 
-or_true : (x : Bool) → x || true ≡ true
-or_true true = refl
-or_true false = refl
-
 ended_how : (bytes : List ℕ) → is_ended bytes ≡ true → (10 < length bytes) ⊎ (list_any is_last bytes ≡ true)
 ended_how bytes =
     elim (nat_lt 10 (length bytes)) as (λ t. nat_lt 10 (length bytes) ≡ t → t || list_any is_last bytes ≡ true →
@@ -136,7 +133,7 @@ ends_more : (bytes more : List ℕ) → is_ended bytes ≡ true → is_ended (by
 ends_more bytes more ended = ⊎_elim
     (λ long. (let longer : nat_lt 10 (length (bytes ++ more)) ≡ true = lt-ltb 10 _ (omega (arith, long, length-append bytes more)) in
     rw longer refl))
-    (λ some. ap (λ t. nat_lt 10 (length (bytes ++ more)) || t) (any_more bytes more some) ∙ or_true (nat_lt 10 (length (bytes ++ more))))
+    (λ some. ap (λ t. nat_lt 10 (length (bytes ++ more)) || t) (any_more bytes more some) ∙ or-true (nat_lt 10 (length (bytes ++ more))))
     (ended_how bytes ended)
 
 abbrev Length : Type 0
@@ -162,17 +159,17 @@ sized_more s b bytes more u (Ok (size, rest)) at f =
           let far : length (bytes ++ more) - length (rest ++ more) ≡ length bytes - length rest =
           omega (arith, length-append bytes more, length-append rest more) in
           rw (fits, same, far) e)
-      | false ↦ λ is e. absurd (some_is_not_none u (sym e))
+      | false ↦ λ is e. absurd (none-some u e)
     ] refl f
 
 set_by : (s : Segment) (b : ℕ) (bytes more : List ℕ) (u : FileUnit) (ended : Bool) → is_ended bytes ≡ ended →
     sized_unit s b bytes (cond ended (Some (number_at bytes)) None) ≡ Some u →
     sized_unit s b (bytes ++ more) (length_at (bytes ++ more)) ≡ Some u
 set_by s b bytes more u true ended e = rw (length_stays bytes more ended) (sized_more s b bytes more u (number_at bytes) (rw ended refl) e)
-set_by s b bytes more u false ended e = absurd (some_is_not_none u (sym e))
+set_by s b bytes more u false ended e = absurd (none-some u e)
 
 segment_stays : (s : Segment) (bytes more : List ℕ) → Stays (segment_unit s) bytes more
-segment_stays s [] more u e = absurd (some_is_not_none u (sym e))
+segment_stays s [] more u e = absurd (none-some u e)
 segment_stays s (b ∷ bytes) more u e =
     let set = set_by s b bytes more u (is_ended bytes) refl in
     elim (b == end_byte) as (λ t. cond t (Some (unit 1 (no_version PastEnd)))
@@ -197,7 +194,7 @@ segment_stays s (b ∷ bytes) more u e =
     ] e
 
 rest_stays : (bytes more : List ℕ) → Stays unit_after_end bytes more
-rest_stays [] more u e = absurd (some_is_not_none u (sym e))
+rest_stays [] more u e = absurd (none-some u e)
 rest_stays (b ∷ bytes) more u e = e
 
 -- A whole unit stays the same, whatever bytes follow it.

@@ -2,6 +2,7 @@
 use Rattle.std.proofs.Common.{◌≡◌, ℕ, zero, suc, ◌+◌, ◌-◌, ◌≤◌, ◌==◌, true, false, cond, List, [], ◌∷◌, length, drop, take, refl, sym, ap}
 use Rattle.std.proofs.Common.{◌∙◌, subst, arith, Option, Some, None, Result, Ok, Err, length-drop, length-append, nat_lt, nat_le}
 use Rattle.std.proofs.lemmas.Bool.{ltb-false, leb-true}
+use Rattle.std.proofs.lemmas.Option.{none-some}
 use Rattle.opl_line.specs.Delimiter.{is_line_end, split_first}
 use Rattle.opl_line.specs.Reading.{reading_line}
 use Rattle.o5_codec.specs.declared.reason.O5Reason.{O5Reason}
@@ -15,7 +16,7 @@ use Rattle.osm_files.specs.Units.{line_found}
 use Rattle.osm_files.specs.Units.{header_unit, is_header, content_found, length_at, sized_unit, segment_unit, unit_after_end, unit_at}
 use Rattle.osm_files.specs.Units.{last_at}
 use Rattle.osm_files.specs.Units.{found_then, final_units, unit_then, units_within, units}
-use Rattle.osm_files.proofs.UnitLaws.{splits, SplitsAs, some_is_not_none}
+use Rattle.osm_files.proofs.UnitLaws.{splits, SplitsAs}
 use Rattle.osm_files.proofs.SizeLaws.{length_found}
 
 -- a unit has at least one byte, and no more than there are
@@ -27,7 +28,7 @@ abbrev Sizes : List ℕ → Option FileUnit → Type 0
 Sizes bytes found = (u : FileUnit) → found ≡ Some u → IsSized u bytes
 
 none_sized : (bytes : List ℕ) → Sizes bytes None
-none_sized bytes = λ u e. absurd (some_is_not_none u (sym e))
+none_sized bytes = λ u e. absurd (none-some u e)
 
 some_sized : (bytes : List ℕ) (size : ℕ) (found : UnitResult) → 1 ≤ size → size ≤ length bytes → Sizes bytes (Some (unit size found))
 some_sized bytes size found some within = λ u e.
@@ -94,60 +95,61 @@ unit_sized (InSegment s) bytes = segment_sized s bytes
 unit_sized PastEnd bytes = after_sized bytes
 
 -- The units after a unit may be replaced by equal ones.
-pub found_same : (place : ℕ) (found : UnitResult) (more others : FileStateData → SourceRest Placed Verdict) →
+pub found_same : (offset : ℕ) (found : UnitResult) (more others : FileStateData → SourceRest Placed Verdict) →
     ((next : FileStateData) → more next ≡ others next) →
-    found_then place found more ≡ found_then place found others
-found_same place (Err reason) more others same = refl
-found_same place (Ok (None, next)) more others same = same next
-found_same place (Ok (Some v, next)) more others same =
-    ap (λ s. record { list = record { place = place; version = v } ∷ s.list; refusal = s.refusal }) (same next)
+    found_then offset found more ≡ found_then offset found others
+found_same offset (Err reason) more others same = refl
+found_same offset (Ok (None, next)) more others same = same next
+found_same offset (Ok (Some v, next)) more others same =
+    ap (λ s. record { list = record { offset = offset; version = v } ∷ s.list; refusal = s.refusal }) (same next)
 
 module _ (close : Option Verdict) where
   abbrev Same : ℕ → ℕ → Type 0
-  Same n m = (stage : FileStateData) (place : ℕ) (bytes : List ℕ) → length bytes ≤ n → length bytes ≤ m →
-      units_within n close stage place bytes ≡ units_within m close stage place bytes
+  Same n m = (stage : FileStateData) (offset : ℕ) (bytes : List ℕ) → length bytes ≤ n → length bytes ≤ m →
+      units_within n close stage offset bytes ≡ units_within m close stage offset bytes
 
   -- a bound on the number of units that is enough
-  then_same : (n m : ℕ) → Same n m → (stage : FileStateData) (place : ℕ) (bytes : List ℕ) → length bytes ≤ suc n → length bytes ≤ suc m →
+  then_same : (n m : ℕ) → Same n m → (stage : FileStateData) (offset : ℕ) (bytes : List ℕ) → length bytes ≤ suc n → length bytes ≤ suc m →
       (found : Option FileUnit) → unit_at stage bytes ≡ found
-      → unit_then close stage place bytes (units_within n close) found ≡ unit_then close stage place bytes (units_within m close) found
-  then_same n m on stage place bytes few less None e = refl
-  then_same n m on stage place bytes few less (Some u) e =
+      → unit_then close stage offset bytes (units_within n close) found ≡ unit_then close stage offset bytes (units_within m close) found
+  then_same n m on stage offset bytes few less None e = refl
+  then_same n m on stage offset bytes few less (Some u) e =
       let sized = unit_sized stage bytes u e in
       let short : length (drop u.size bytes) ≤ n = omega (arith, length-drop u.size bytes, sized.some, sized.within, few) in
       let shorter : length (drop u.size bytes) ≤ m = omega (arith, length-drop u.size bytes, sized.some, sized.within, less) in
-      found_same place u.found _ _ (λ next. on next (place + u.size) (drop u.size bytes) short shorter)
+      found_same offset u.found _ _ (λ next. on next (offset + u.size) (drop u.size bytes) short shorter)
 
-  nothing_there : (stage : FileStateData) (place : ℕ) (m : ℕ) (found : Option FileUnit) → unit_at stage [] ≡ found →
-      unit_then close stage place [] (units_within m close) found ≡ final_units close place (last_at stage [])
-  nothing_there stage place m None e = refl
-  nothing_there stage place m (Some u) e = let sized = unit_sized stage [] u e in absurd (omega (arith, sized.some, sized.within))
+  nothing_there : (stage : FileStateData) (offset : ℕ) (m : ℕ) (found : Option FileUnit) → unit_at stage [] ≡ found →
+      unit_then close stage offset [] (units_within m close) found ≡ final_units close offset (last_at stage [])
+  nothing_there stage offset m None e = refl
+  nothing_there stage offset m (Some u) e = let sized = unit_sized stage [] u e in absurd (omega (arith, sized.some, sized.within))
 
   within_same : (n m : ℕ) → Same n m
-  within_same zero zero stage place bytes few less = refl
-  within_same zero (suc m) stage place [] few less = sym (nothing_there stage place m (unit_at stage []) refl)
-  within_same zero (suc m) stage place (b ∷ bytes) few less = absurd (omega (arith, few))
-  within_same (suc n) zero stage place [] few less = nothing_there stage place n (unit_at stage []) refl
-  within_same (suc n) zero stage place (b ∷ bytes) few less = absurd (omega (arith, less))
-  within_same (suc n) (suc m) stage place bytes few less =
-      then_same n m (within_same n m) stage place bytes few less (unit_at stage bytes) refl
+  within_same zero zero stage offset bytes few less = refl
+  within_same zero (suc m) stage offset [] few less = sym (nothing_there stage offset m (unit_at stage []) refl)
+  within_same zero (suc m) stage offset (b ∷ bytes) few less = absurd (omega (arith, few))
+  within_same (suc n) zero stage offset [] few less = nothing_there stage offset n (unit_at stage []) refl
+  within_same (suc n) zero stage offset (b ∷ bytes) few less = absurd (omega (arith, less))
+  within_same (suc n) (suc m) stage offset bytes few less =
+      then_same n m (within_same n m) stage offset bytes few less (unit_at stage bytes) refl
 
   -- the unit at the front, and those after it
-  pub units_step : (stage : FileStateData) (place : ℕ) (bytes : List ℕ) (u : FileUnit) → unit_at stage bytes ≡ Some u →
-      units close stage place bytes ≡ found_then place u.found (λ next. units close next (place + u.size) (drop u.size bytes))
+  pub units_step : (stage : FileStateData) (offset : ℕ) (bytes : List ℕ) (u : FileUnit) → unit_at stage bytes ≡ Some u →
+      units close stage offset bytes ≡ found_then offset u.found (λ next. units close next (offset + u.size) (drop u.size bytes))
   unfolding units
-  units_step stage place bytes u e =
+  units_step stage offset bytes u e =
       let sized = unit_sized stage bytes u e in
       let n : ℕ = length bytes in
-      within_same n (suc n) stage place bytes (omega arith) (omega arith)
-      ∙ ap (unit_then close stage place bytes (units_within n close)) e
-      ∙ found_same place u.found _ _ (λ next. within_same n (length (drop u.size bytes)) next (place + u.size) (drop u.size bytes)
+      within_same n (suc n) stage offset bytes (omega arith) (omega arith)
+      ∙ ap (unit_then close stage offset bytes (units_within n close)) e
+      ∙ found_same offset u.found _ _ (λ next. within_same n (length (drop u.size bytes)) next (offset + u.size) (drop u.size bytes)
       (omega (arith, length-drop u.size bytes)) (omega arith))
 
   -- if no unit is whole
-  pub units_stop : (stage : FileStateData) (place : ℕ) (bytes : List ℕ) → unit_at stage bytes ≡ None →
-      units close stage place bytes ≡ final_units close place (last_at stage bytes)
+  pub units_stop : (stage : FileStateData) (offset : ℕ) (bytes : List ℕ) → unit_at stage bytes ≡ None →
+      units close stage offset bytes ≡ final_units close offset (last_at stage bytes)
   unfolding units
-  units_stop stage place bytes e =
+  units_stop stage offset bytes e =
       let n : ℕ = length bytes in
-      within_same n (suc n) stage place bytes (omega arith) (omega arith) ∙ ap (unit_then close stage place bytes (units_within n close)) e
+      within_same n (suc n) stage offset bytes (omega arith) (omega arith)
+      ∙ ap (unit_then close stage offset bytes (units_within n close)) e

@@ -1,6 +1,7 @@
 -- The readings of units, and the units of lines.
 use Rattle.std.proofs.Common.{◌≡◌, ℕ, zero, suc, ◌+◌, ◌≤◌, Bool, true, false, not, cond, List, [], ◌∷◌, ◌++◌, length, drop, filter, refl}
 use Rattle.std.proofs.Common.{sym, ap, ◌∙◌, subst, arith, Option, Some, None, Result, Ok, Err, length-append}
+use Rattle.std.proofs.lemmas.Option.{none-some}
 use Rattle.osm_model.specs.Data.{VersionData}
 use Rattle.osm_model.specs.Pairwise.{Pairwise}
 use Rattle.opl_line.specs.Delimiter.{split_all, is_line_end, with_byte, pieces_of, split_first}
@@ -19,10 +20,6 @@ use Rattle.osm_files.specs.Verdict.{versions_of}
 pub record ReadsAs (still : SourceRest Placed Verdict) (Spelled : List VersionData → Type 0) : Type 0 where
   pub read : (versions : List VersionData) → Spelled versions → (still.refusal ≡ None) × (versions_of still.list ≡ versions)
   pub back : still.refusal ≡ None → Spelled (versions_of still.list)
-
--- A value isn't None.
-pub some_is_not_none : {A : Type 0} (x : A) → Some x ≡ None → ⊥
-some_is_not_none x e = cc
 
 abbrev pub LineFile : List (List ℕ) → List VersionData → Type 0
 LineFile pieces = Pairwise Spells (filter is_read pieces)
@@ -55,15 +52,15 @@ refused_line line pieces reason versions e all =
     let k = spelled_line line pieces versions (kept_by (is_skipped line) _ reason e) all in
     refused_spells_nothing line reason k.0 e k.3
 
-pub line_then : (line : List ℕ) (pieces : List (List ℕ)) (place : ℕ) (more : FileStateData → SourceRest Placed Verdict) →
+pub line_then : (line : List ℕ) (pieces : List (List ℕ)) (offset : ℕ) (more : FileStateData → SourceRest Placed Verdict) →
     ReadsAs (more InOpl) (LineFile pieces) → (result : Result (Option VersionData) OplReason) → reading_line line ≡ result
-    → ReadsAs (found_then place (line_found result) more) (LineFile (line ∷ pieces))
-line_then line pieces place more h (Ok None) e =
+    → ReadsAs (found_then offset (line_found result) more) (LineFile (line ∷ pieces))
+line_then line pieces offset more h (Ok None) e =
     let skipped : is_skipped line ≡ true = result_spelled line (Ok None) e in
     let same : filter is_read (line ∷ pieces) ≡ filter is_read pieces = rw skipped refl in
     let P : List (List ℕ) → Type 0 = λ ls. ReadsAs (more InOpl) (Pairwise Spells ls) in
     subst P (sym same) h
-line_then line pieces place more h (Ok (Some v)) e =
+line_then line pieces offset more h (Ok (Some v)) e =
     let spelled = read_is_spelled line v e in
     let kept : is_skipped line ≡ false = kept_some (is_skipped line) _ v e in
     let same : filter is_read (line ∷ pieces) ≡ line ∷ filter is_read pieces = rw kept refl in
@@ -76,9 +73,9 @@ line_then line pieces place more h (Ok (Some v)) e =
           let P : List (List ℕ) → Type 0 = λ ls. Pairwise Spells ls (v ∷ versions_of (more InOpl).list) in
           subst P (sym same) (spelled, h.back none));
     }
-line_then line pieces place more h (Err reason) e = record {
+line_then line pieces offset more h (Err reason) e = record {
   read = λ versions all. absurd (refused_line line pieces reason versions e all);
-  back = λ none. absurd (some_is_not_none _ none);
+  back = λ none. absurd (none-some _ (sym none));
 }
 
 -- a text up to the first byte that it is cut at
@@ -106,7 +103,7 @@ drop_after (a ∷ front) b after = let e : length (a ∷ front) + 1 ≡ suc (len
     rw e (drop_after front b after)
 
 abbrev pub Reads : ℕ → Type 0
-Reads n = (bytes : List ℕ) (place : ℕ) → length bytes ≤ n → ReadsAs (units_within n None InOpl place bytes) (OplFile bytes)
+Reads n = (bytes : List ℕ) (offset : ℕ) → length bytes ≤ n → ReadsAs (units_within n None InOpl offset bytes) (OplFile bytes)
 
 nothing : (versions : List VersionData) → LineFile [] versions → [] ≡ versions
 nothing [] h = refl
@@ -124,31 +121,31 @@ unfolding last_at
 last_in_opl bytes = refl
 
 -- the last line, which may lack its end
-last_line : (place : ℕ) (bytes : List ℕ) → ReadsAs (final_units None place (last_at InOpl bytes)) (LineFile (bytes ∷ []))
-last_line place bytes = rw (last_in_opl bytes) (line_then bytes [] place (λ next. end_whole) nothing_more (reading_line bytes) refl)
+last_line : (offset : ℕ) (bytes : List ℕ) → ReadsAs (final_units None offset (last_at InOpl bytes)) (LineFile (bytes ∷ []))
+last_line offset bytes = rw (last_in_opl bytes) (line_then bytes [] offset (λ next. end_whole) nothing_more (reading_line bytes) refl)
 
 -- the first line, and the bytes after its end
-first_line : (n : ℕ) → Reads n → (bytes : List ℕ) (place : ℕ) → length bytes ≤ suc n → (s : List ℕ × Option (List ℕ)) → SplitsAs bytes s →
+first_line : (n : ℕ) → Reads n → (bytes : List ℕ) (offset : ℕ) → length bytes ≤ suc n → (s : List ℕ × Option (List ℕ)) → SplitsAs bytes s →
     split_all is_line_end bytes ≡ s.0 ∷ pieces_of is_line_end s.1
-    → ReadsAs (unit_then None InOpl place bytes (units_within n None) (line_unit s)) (OplFile bytes)
-first_line n on bytes place fits (line, None) split pieces =
-    let P : List (List ℕ) → Type 0 = λ ls. ReadsAs (final_units None place (last_at InOpl bytes)) (LineFile ls) in
-    subst P (sym pieces ∙ refl) (subst (λ (l : List ℕ). ReadsAs (final_units None place (last_at InOpl bytes)) (LineFile (l ∷ [])))
+    → ReadsAs (unit_then None InOpl offset bytes (units_within n None) (line_unit s)) (OplFile bytes)
+first_line n on bytes offset fits (line, None) split pieces =
+    let P : List (List ℕ) → Type 0 = λ ls. ReadsAs (final_units None offset (last_at InOpl bytes)) (LineFile ls) in
+    subst P (sym pieces ∙ refl) (subst (λ (l : List ℕ). ReadsAs (final_units None offset (last_at InOpl bytes)) (LineFile (l ∷ [])))
     (sym split)
-    (last_line place bytes))
-first_line n on bytes place fits (line, Some after) split pieces =
+    (last_line offset bytes))
+first_line n on bytes offset fits (line, Some after) split pieces =
     let size : ℕ = length line + 1 in
     let rest : drop size bytes ≡ after = ap (drop size) split.1 ∙ drop_after line split.0 after in
     let few : length after ≤ n = omega (arith, fits, ap length split.1, length-append line (split.0 ∷ after)) in
-    let more : FileStateData → SourceRest Placed Verdict = λ next. units_within n None next (place + size) (drop size bytes) in
-    let reads : ReadsAs (more InOpl) (LineFile (split_all is_line_end after)) = rw rest (on after (place + size) few) in
-    let P : List (List ℕ) → Type 0 = λ ls. ReadsAs (found_then place (line_found (reading_line line)) more) (LineFile ls) in
-    subst P (sym pieces) (line_then line (split_all is_line_end after) place more reads (reading_line line) refl)
+    let more : FileStateData → SourceRest Placed Verdict = λ next. units_within n None next (offset + size) (drop size bytes) in
+    let reads : ReadsAs (more InOpl) (LineFile (split_all is_line_end after)) = rw rest (on after (offset + size) few) in
+    let P : List (List ℕ) → Type 0 = λ ls. ReadsAs (found_then offset (line_found (reading_line line)) more) (LineFile ls) in
+    subst P (sym pieces) (line_then line (split_all is_line_end after) offset more reads (reading_line line) refl)
 
 -- The units of an OPL file read as its lines.
 pub opl_reads : (n : ℕ) → Reads n
-opl_reads zero [] place fits = last_line place []
-opl_reads zero (b ∷ bytes) place fits = absurd (omega (arith, fits))
-opl_reads (suc n) bytes place fits =
-    rw (unit_in_opl bytes) (first_line n (opl_reads n) bytes place fits (split_first is_line_end bytes) (splits is_line_end bytes)
+opl_reads zero [] offset fits = last_line offset []
+opl_reads zero (b ∷ bytes) offset fits = absurd (omega (arith, fits))
+opl_reads (suc n) bytes offset fits =
+    rw (unit_in_opl bytes) (first_line n (opl_reads n) bytes offset fits (split_first is_line_end bytes) (splits is_line_end bytes)
     (cut_split is_line_end bytes))

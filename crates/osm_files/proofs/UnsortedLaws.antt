@@ -24,6 +24,7 @@ use Rattle.osm_files.proofs.HoldLaws.{whole_refusal, whole_source_is_held}
 use Rattle.osm_files.proofs.LoadFaults.{FineFound, FineUnit, unit_fine, last_fine}
 use Rattle.osm_files.proofs.PositionLaws.{none_in_nothing}
 use Rattle.osm_files.proofs.StepLaws.{unit_sized, units_step, units_stop}
+use Rattle.osm_files.proofs.UnitLaws.{unit_in_opl}
 
 -- ---- a line at the front
 -- the first piece of a text is split off with its end, whatever comes after them
@@ -50,10 +51,6 @@ module _ (p : ℕ → Bool) where
         | true ↦ λ is. (a, refl, λ more. ap (λ t. cond t ([], Some more) (with_byte a (split_first p more))) is)
         | false ↦ λ inside. longer a bytes inside (split_first p bytes) (splits_off bytes)
       ] refl
-
-unit_in_opl : (bytes : List ℕ) → unit_at InOpl bytes ≡ line_unit (split_first is_line_end bytes)
-unfolding unit_at
-unit_in_opl bytes = refl
 
 -- the unit at the front is a line with its end, and the same whatever comes after it
 record LineAt (bytes : List ℕ) (u : FileUnit) : Type 0 where
@@ -90,22 +87,23 @@ unfolding last_at
 last_of_nothing = refl
 
 -- no bytes are no lines
-no_lines : (place : ℕ) → units None InOpl place [] ≡ end_whole
-no_lines place = units_stop None InOpl place [] (none_in_nothing InOpl) ∙ ap (λ f. found_then place f (λ next. end_whole)) last_of_nothing
+no_lines : (offset : ℕ) → units None InOpl offset [] ≡ end_whole
+no_lines offset = units_stop None InOpl offset [] (none_in_nothing InOpl)
+    ∙ ap (λ f. found_then offset f (λ next. end_whole)) last_of_nothing
 
 abbrev order_of : Option VersionData → SourceRest Placed Verdict → Option Verdict
 order_of before us = sorted_verdict us.refusal before us.list
 
 -- the bytes begin with lines up to the offset `end`, and the keys of their versions don't fall
-record LinesBefore (end : ℕ) (before : Option VersionData) (place : ℕ) (bytes : List ℕ) : Type 0 where
+record LinesBefore (end : ℕ) (before : Option VersionData) (offset : ℕ) (bytes : List ℕ) : Type 0 where
   front : List ℕ
   rest : List ℕ
   whole : bytes ≡ front ++ rest
-  far : end ≡ place + length front
-  rises : order_of before (units None InOpl place front) ≡ None
+  far : end ≡ offset + length front
+  rises : order_of before (units None InOpl offset front) ≡ None
 
-same_place : (place end : ℕ) → Some (verdict_at place Unsorted) ≡ Some (verdict_at end Unsorted) → end ≡ place
-same_place place end e = let f : verdict_at place Unsorted ≡ verdict_at end Unsorted = cc in ap (λ v. v.place) (sym f)
+same_offset : (offset end : ℕ) → Some (verdict_at offset Unsorted) ≡ Some (verdict_at end Unsorted) → end ≡ offset
+same_offset offset end e = let f : verdict_at offset Unsorted ≡ verdict_at end Unsorted = cc in ap (λ v. v.place) (sym f)
 
 -- a fault of a unit isn't Unsorted
 abbrev IsOther : Option Verdict → Type 0
@@ -120,48 +118,48 @@ module _ (close : Option Verdict) (other : IsOther close) (end : ℕ) where
   abbrev Falls : Option VersionData → SourceRest Placed Verdict → Type 0
   Falls before us = order_of before us ≡ Some (verdict_at end Unsorted)
 
-  here : (before : Option VersionData) (place : ℕ) (bytes : List ℕ) → end ≡ place → LinesBefore end before place bytes
-  here before place bytes is = record {
+  here : (before : Option VersionData) (offset : ℕ) (bytes : List ℕ) → end ≡ offset → LinesBefore end before offset bytes
+  here before offset bytes is = record {
     front = [];
     rest = bytes;
     whole = refl;
     far = omega (arith, is);
-    rises = ap (order_of before) (no_lines place);
+    rises = ap (order_of before) (no_lines offset);
   }
 
-  last_falls : (before : Option VersionData) (place : ℕ) (bytes : List ℕ) (found : UnitResult) → FineFound found
-      → Falls before (found_then place found (λ next. end_whole)) → LinesBefore end before place bytes
-  last_falls before place bytes (Err reason) fine e =
-      let same : verdict_at place reason ≡ verdict_at end Unsorted = cc in
+  last_falls : (before : Option VersionData) (offset : ℕ) (bytes : List ℕ) (found : UnitResult) → FineFound found
+      → Falls before (found_then offset found (λ next. end_whole)) → LinesBefore end before offset bytes
+  last_falls before offset bytes (Err reason) fine e =
+      let same : verdict_at offset reason ≡ verdict_at end Unsorted = cc in
       absurd (fine_is_other (Err reason) reason fine refl (ap (λ v. v.reason) same))
-  last_falls before place bytes (Ok (None, next)) fine e = absurd (let f : None ≡ Some (verdict_at end Unsorted) = e in cc)
-  last_falls before place bytes (Ok (Some v, next)) fine e =
-      elim (is_below v before) as (λ t. cond t (Some (verdict_at place Unsorted)) None ≡ Some (verdict_at end Unsorted)
-      → LinesBefore end before place bytes) [
-        | true ↦ λ f. here before place bytes (same_place place end f)
+  last_falls before offset bytes (Ok (None, next)) fine e = absurd (let f : None ≡ Some (verdict_at end Unsorted) = e in cc)
+  last_falls before offset bytes (Ok (Some v, next)) fine e =
+      elim (is_below v before) as (λ t. cond t (Some (verdict_at offset Unsorted)) None ≡ Some (verdict_at end Unsorted)
+      → LinesBefore end before offset bytes) [
+        | true ↦ λ f. here before offset bytes (same_offset offset end f)
         | false ↦ λ f. absurd (let g : None ≡ Some (verdict_at end Unsorted) = f in cc)
       ] e
 
-  stops : (before : Option VersionData) (place : ℕ) (bytes : List ℕ) (c : Option Verdict) → IsOther c
-      → Falls before (final_units c place (last_at InOpl bytes)) → LinesBefore end before place bytes
-  stops before place bytes None h e = last_falls before place bytes (last_at InOpl bytes) (last_fine InOpl bytes) e
-  stops before place bytes (Some v) h e =
+  stops : (before : Option VersionData) (offset : ℕ) (bytes : List ℕ) (c : Option Verdict) → IsOther c
+      → Falls before (final_units c offset (last_at InOpl bytes)) → LinesBefore end before offset bytes
+  stops before offset bytes None h e = last_falls before offset bytes (last_at InOpl bytes) (last_fine InOpl bytes) e
+  stops before offset bytes (Some v) h e =
       let same : v ≡ verdict_at end Unsorted = cc in
       absurd (h (ap (λ w. w.reason) same))
 
-  module _ (before : Option VersionData) (place : ℕ) (bytes : List ℕ) (u : FileUnit) (at : LineAt bytes u) where
+  module _ (before : Option VersionData) (offset : ℕ) (bytes : List ℕ) (u : FileUnit) (at : LineAt bytes u) where
     abbrev Later : Option VersionData → Type 0
-    Later b = LinesBefore end b (place + u.size) at.rest
+    Later b = LinesBefore end b (offset + u.size) at.rest
 
-    more_lines : (more : List ℕ) → units None InOpl place (at.line ++ more)
-        ≡ found_then place (line_found at.read) (λ next. units None next (place + u.size) more)
+    more_lines : (more : List ℕ) → units None InOpl offset (at.line ++ more)
+        ≡ found_then offset (line_found at.read) (λ next. units None next (offset + u.size) more)
     more_lines more =
-        units_step None InOpl place (at.line ++ more) u (at.again more)
-        ∙ (λ i. found_then place (at.found i) (λ next. units None next (place + u.size) (drop (at.size i) (at.line ++ more))))
-        ∙ ap (λ xs. found_then place (line_found at.read) (λ next. units None next (place + u.size) xs)) (drop-append_seam at.line more)
+        units_step None InOpl offset (at.line ++ more) u (at.again more)
+        ∙ (λ i. found_then offset (at.found i) (λ next. units None next (offset + u.size) (drop (at.size i) (at.line ++ more))))
+        ∙ ap (λ xs. found_then offset (line_found at.read) (λ next. units None next (offset + u.size) xs)) (drop-append_seam at.line more)
 
-    on_from : (b : Option VersionData) (later : Later b) → order_of before (units None InOpl place (at.line ++ later.front)) ≡ None
-        → LinesBefore end before place bytes
+    on_from : (b : Option VersionData) (later : Later b) → order_of before (units None InOpl offset (at.line ++ later.front)) ≡ None
+        → LinesBefore end before offset bytes
     on_from b later rises = record {
       front = at.line ++ later.front;
       rest = later.rest;
@@ -171,70 +169,70 @@ module _ (close : Option Verdict) (other : IsOther close) (end : ℕ) where
     }
 
     passes : (read : Result (Option VersionData) OplReason) → at.read ≡ read → FineFound (line_found read)
-        → ((b : Option VersionData) → Falls b (units close InOpl (place + u.size) at.rest) → Later b)
-        → Falls before (found_then place (line_found read) (λ next. units close next (place + u.size) at.rest))
-        → LinesBefore end before place bytes
+        → ((b : Option VersionData) → Falls b (units close InOpl (offset + u.size) at.rest) → Later b)
+        → Falls before (found_then offset (line_found read) (λ next. units close next (offset + u.size) at.rest))
+        → LinesBefore end before offset bytes
     passes (Err reason) is fine on e =
-        let same : verdict_at place (of_line reason) ≡ verdict_at end Unsorted = cc in
+        let same : verdict_at offset (of_line reason) ≡ verdict_at end Unsorted = cc in
         absurd (fine_is_other (Err (of_line reason)) (of_line reason) fine refl (ap (λ v. v.reason) same))
     passes (Ok None) is fine on e =
         let later = on before e in
         on_from before later
         (ap (order_of before) (more_lines later.front
-        ∙ ap (λ r. found_then place (line_found r) (λ next. units None next (place + u.size) later.front)) is) ∙ later.rises)
+        ∙ ap (λ r. found_then offset (line_found r) (λ next. units None next (offset + u.size) later.front)) is) ∙ later.rises)
     passes (Ok (Some v)) is fine on e =
         elim (is_below v before) as (λ t. is_below v before ≡ t
-        → cond t (Some (verdict_at place Unsorted)) (order_of (Some v) (units close InOpl (place + u.size) at.rest))
-        ≡ Some (verdict_at end Unsorted) → LinesBefore end before place bytes) [
-          | true ↦ λ below f. here before place bytes (same_place place end f)
+        → cond t (Some (verdict_at offset Unsorted)) (order_of (Some v) (units close InOpl (offset + u.size) at.rest))
+        ≡ Some (verdict_at end Unsorted) → LinesBefore end before offset bytes) [
+          | true ↦ λ below f. here before offset bytes (same_offset offset end f)
           | false ↦ λ not_below f.
               let later = on (Some v) f in
               on_from (Some v) later
               (ap (order_of before) (more_lines later.front
-              ∙ ap (λ r. found_then place (line_found r) (λ next. units None next (place + u.size) later.front)) is)
-              ∙ ap (λ t. cond t (Some (verdict_at place Unsorted)) (order_of (Some v) (units None InOpl (place + u.size) later.front)))
+              ∙ ap (λ r. found_then offset (line_found r) (λ next. units None next (offset + u.size) later.front)) is)
+              ∙ ap (λ t. cond t (Some (verdict_at offset Unsorted)) (order_of (Some v) (units None InOpl (offset + u.size) later.front)))
               not_below
               ∙ later.rises)
         ] refl e
 
   abbrev Lines : ℕ → Type 0
-  Lines n = (before : Option VersionData) (place : ℕ) (bytes : List ℕ) → length bytes ≤ n → Falls before (units close InOpl place bytes)
-      → LinesBefore end before place bytes
+  Lines n = (before : Option VersionData) (offset : ℕ) (bytes : List ℕ) → length bytes ≤ n → Falls before (units close InOpl offset bytes)
+      → LinesBefore end before offset bytes
 
-  by_unit : (before : Option VersionData) (place : ℕ) (bytes : List ℕ) (found : Option FileUnit) → unit_at InOpl bytes ≡ found
+  by_unit : (before : Option VersionData) (offset : ℕ) (bytes : List ℕ) (found : Option FileUnit) → unit_at InOpl bytes ≡ found
       → ((u : FileUnit) (at : LineAt bytes u) (b : Option VersionData) → length at.rest < length bytes
-      → Falls b (units close InOpl (place + u.size) at.rest) → LinesBefore end b (place + u.size) at.rest)
-      → Falls before (units close InOpl place bytes) → LinesBefore end before place bytes
-  by_unit before place bytes None e on falls =
-      stops before place bytes close other (ap (order_of before) (sym (units_stop close InOpl place bytes e)) ∙ falls)
-  by_unit before place bytes (Some u) e on falls =
+      → Falls b (units close InOpl (offset + u.size) at.rest) → LinesBefore end b (offset + u.size) at.rest)
+      → Falls before (units close InOpl offset bytes) → LinesBefore end before offset bytes
+  by_unit before offset bytes None e on falls =
+      stops before offset bytes close other (ap (order_of before) (sym (units_stop close InOpl offset bytes e)) ∙ falls)
+  by_unit before offset bytes (Some u) e on falls =
       let at = line_at bytes u e in
       let sized = unit_sized InOpl bytes u e in
       let less : length at.rest < length bytes = omega (arith, sized.some, at.size, ap length at.whole, length-append at.line at.rest) in
       let fine : FineFound (line_found at.read) =
       subst FineFound at.found (subst FineUnit e (unit_fine InOpl bytes)) in
-      let step : units close InOpl place bytes
-      ≡ found_then place (line_found at.read) (λ next. units close next (place + u.size) at.rest) =
-      units_step close InOpl place bytes u e
-      ∙ (λ i. found_then place (at.found i) (λ next. units close next (place + u.size) (drop (at.size i) (at.whole i))))
-      ∙ ap (λ xs. found_then place (line_found at.read) (λ next. units close next (place + u.size) xs)) (drop-append_seam at.line at.rest)
+      let step : units close InOpl offset bytes
+      ≡ found_then offset (line_found at.read) (λ next. units close next (offset + u.size) at.rest) =
+      units_step close InOpl offset bytes u e
+      ∙ (λ i. found_then offset (at.found i) (λ next. units close next (offset + u.size) (drop (at.size i) (at.whole i))))
+      ∙ ap (λ xs. found_then offset (line_found at.read) (λ next. units close next (offset + u.size) xs)) (drop-append_seam at.line at.rest)
       in
-      passes before place bytes u at at.read refl fine (λ b. on u at b less) (ap (order_of before) (sym step) ∙ falls)
+      passes before offset bytes u at at.read refl fine (λ b. on u at b less) (ap (order_of before) (sym step) ∙ falls)
 
   lines : (n : ℕ) → Lines n
-  lines zero before place bytes few falls =
-      by_unit before place bytes (unit_at InOpl bytes) refl (λ u at b less f. absurd (omega (arith, less, few))) falls
-  lines (suc n) before place bytes few falls =
-      by_unit before place bytes (unit_at InOpl bytes) refl
-      (λ u at b less f. lines n b (place + u.size) at.rest (omega (arith, less, few)) f) falls
+  lines zero before offset bytes few falls =
+      by_unit before offset bytes (unit_at InOpl bytes) refl (λ u at b less f. absurd (omega (arith, less, few))) falls
+  lines (suc n) before offset bytes few falls =
+      by_unit before offset bytes (unit_at InOpl bytes) refl
+      (λ u at b less f. lines n b (offset + u.size) at.rest (omega (arith, less, few)) f) falls
 
 -- ---- the front of a file
 -- the bytes before this offset are a sorted file
-pub record SortedFront (bytes : List ℕ) (place : ℕ) : Type 0 where
+pub record SortedFront (bytes : List ℕ) (offset : ℕ) : Type 0 where
   pub front : List ℕ
   pub rest : List ℕ
   pub whole : bytes ≡ front ++ rest
-  pub size : length front ≡ place
+  pub size : length front ≡ offset
   pub held : VersionSet
   pub sorted : HoldsSorted front held
 
@@ -246,11 +244,11 @@ front_starts (b ∷ front) rest e = e
 is_sorted_file : (bytes : List ℕ) → verdict_sorted bytes ≡ None → (held : VersionSet) × HoldsSorted bytes held
 is_sorted_file bytes none = (_, whole_source_is_held 0 bytes (whole_refusal 0 bytes ∙ ap (option_map (fault_of 0)) none))
 
-by_lines : (bytes window others : List ℕ) (place : ℕ) (close : Option Verdict) → bytes ≡ window ++ others → length window < 2 ^ 62
-    → IsOther close → start_of bytes ≡ InOpl → order_of None (units close InOpl 0 window) ≡ Some (verdict_at place Unsorted)
-    → SortedFront bytes place
-by_lines bytes window others place close is short other starts falls =
-    let h = lines close other place (length window) None 0 window (omega arith) falls in
+by_lines : (bytes window others : List ℕ) (offset : ℕ) (close : Option Verdict) → bytes ≡ window ++ others → length window < 2 ^ 62
+    → IsOther close → start_of bytes ≡ InOpl → order_of None (units close InOpl 0 window) ≡ Some (verdict_at offset Unsorted)
+    → SortedFront bytes offset
+by_lines bytes window others offset close is short other starts falls =
+    let h = lines close other offset (length window) None 0 window (omega arith) falls in
     let whole : bytes ≡ h.front ++ (h.rest ++ others) =
     is ∙ ap (λ xs. xs ++ others) h.whole ∙ append_assoc h.front h.rest others in
     let few : length h.front < 2 ^ 62 = omega (arith, short, ap length h.whole, length-append h.front h.rest) in
@@ -268,16 +266,17 @@ by_lines bytes window others place close is short other starts falls =
     }
 
 -- The bytes of an OPL file before its first version that is out of order are a sorted file.
-pub front_sorted : (bytes : List ℕ) (place : ℕ) → start_of bytes ≡ InOpl → IsFirstUnsorted bytes place → SortedFront bytes place
+pub front_sorted : (bytes : List ℕ) (offset : ℕ) → start_of bytes ≡ InOpl → IsFirstUnsorted bytes offset → SortedFront bytes offset
 unfolding file_units length_limit
-front_sorted bytes place starts =
+front_sorted bytes offset starts =
     let window : List ℕ = take (2 ^ 62 - 1) bytes in
     elim (nat_lt (length bytes) (2 ^ 62)) as (λ t. nat_lt (length bytes) (2 ^ 62) ≡ t
     → order_of None (cond t (units None (start_of bytes) 0 bytes) (units (Some too_long_verdict) (start_of bytes) 0 window))
-    ≡ Some (verdict_at place Unsorted) → SortedFront bytes place) [
-      | true ↦ λ short falls. by_lines bytes bytes [] place None (sym (append-nil bytes)) (ltb-true (length bytes) (2 ^ 62) short) tt starts
+    ≡ Some (verdict_at offset Unsorted) → SortedFront bytes offset) [
+      | true ↦ λ short falls. by_lines bytes bytes [] offset None (sym (append-nil bytes)) (ltb-true (length bytes) (2 ^ 62) short)
+          tt starts
           (ap (λ s. order_of None (units None s 0 bytes)) (sym starts) ∙ falls)
-      | false ↦ λ long falls. by_lines bytes window (drop (2 ^ 62 - 1) bytes) place (Some too_long_verdict)
+      | false ↦ λ long falls. by_lines bytes window (drop (2 ^ 62 - 1) bytes) offset (Some too_long_verdict)
           (sym (take-append-drop (2 ^ 62 - 1) bytes)) (omega (arith, length-take (2 ^ 62 - 1) bytes)) (λ e. cc) starts
           (ap (λ s. order_of None (units (Some too_long_verdict) s 0 window)) (sym starts) ∙ falls)
     ] refl

@@ -1,6 +1,7 @@
 -- Inputs that fail at their end if the last line of OPL has no end.
 use Rattle.std.proofs.Common.{◌≡◌, ℕ, ◌-◌, ◌==◌, ◌||◌, Bool, true, false, cond, List, [], ◌∷◌, ◌++◌, length, slice_get, Option, Some, None}
 use Rattle.std.proofs.Common.{refl, sym, ap, ◌∙◌, subst, append-nil, arith}
+use Rattle.std.proofs.Math.Bool.{or-false}
 use Rattle.osm_files.specs.declared.whole_lines.Ending.{Ending}
 use Rattle.osm_files.specs.declared.whole_lines.Ending.TheVariants.{Any, Start, LineEnd, InLine}
 use Rattle.osm_files.specs.Input.{InputRest, whole_input, broken_input, with_front, Gave, GivesOne}
@@ -91,14 +92,10 @@ stays_any None last = refl
 stays_any (Some first) None = refl
 stays_any (Some first) (Some last) = refl
 
-stays_broken : (t : Bool) → t || false ≡ t
-stays_broken true = refl
-stays_broken false = refl
-
 given_alike : (given : InputRest) → with_line_end Any given ≡ given
 given_alike given =
     ap (λ (e : Ending). record { bytes = given.bytes; broken = given.broken || is_in_line e }) (stays_any (slice_get given.bytes 0) _)
-    ∙ ap (λ (t : Bool). record { bytes = given.bytes; broken = t }) (stays_broken given.broken)
+    ∙ ap (λ (t : Bool). record { bytes = given.bytes; broken = t }) (or-false given.broken)
 
 pub any_given : (can : InputRest → Type 0) (c : InputRest) → GivesOne can (λ given. c ≡ with_line_end Any given) → can c
 any_given can c (given, gives, is) = subst can (sym (is ∙ given_alike given)) gives

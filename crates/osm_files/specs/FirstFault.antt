@@ -110,15 +110,15 @@ pub data IsNext : Option Verdict → FileStateData → List ℕ → VersionData 
   line_without_end : (bytes : List ℕ) (v : VersionData) → IsPart InOpl bytes → Spells bytes v →
       IsNext None InOpl bytes v
 
--- Why a reading stops at the offset `place`, with these bytes left, after these versions: the unit there is faulty; or
+-- Why a reading stops at the offset `offset`, with these bytes left, after these versions: the unit there is faulty; or
 -- its version has a key below that of the last version; or the bytes are fewer than those of a whole unit, and they
 -- can't end the file, or the verdict that closes it follows them.
 abbrev pub StopsAt : Option Verdict → List VersionData → FileStateData → List ℕ → ℕ → Verdict → Type 0
-StopsAt close versions stage rest place v =
-    (IsFaulty stage rest v.reason × (v.place ≡ place))
+StopsAt close versions stage rest offset v =
+    (IsFaulty stage rest v.reason × (v.place ≡ offset))
     ⊎ ((w : VersionData) × IsNext close stage rest w × (is_below_last w versions ≡ true)
-    × (v ≡ verdict_at place Unsorted))
-    ⊎ (IsPart stage rest × (((close ≡ None) × CannotEnd stage rest v.reason × (v.place ≡ place)) ⊎ (close ≡ Some v)))
+    × (v ≡ verdict_at offset Unsorted))
+    ⊎ (IsPart stage rest × (((close ≡ None) × CannotEnd stage rest v.reason × (v.place ≡ offset)) ⊎ (close ≡ Some v)))
 
 -- The first fault of an input: after units that spell these versions, whose keys don't fall, the reading stops with
 -- this verdict. An error after the bytes closes them, and so does their 2^62th byte.
@@ -127,9 +127,9 @@ pub record HasFirstFault (c : InputRest) (versions : List VersionData) (v : Verd
   pub rest : List ℕ
   pub leads : Leads (start_of c.bytes) (window 0 c) versions stage rest
   pub sorted : IsSorted key_cmp versions
-  pub place : ℕ
-  pub after : place + length rest ≡ length (window 0 c)
-  pub stops : StopsAt (closing_verdict 0 c) versions stage rest place v
+  pub offset : ℕ
+  pub after : offset + length rest ≡ length (window 0 c)
+  pub stops : StopsAt (closing_verdict 0 c) versions stage rest offset v
 
 -- What a source of a sorted file gives of an input: the whole set of a sorted file, or the key groups before the last
 -- one that began before the first fault, and then that fault.

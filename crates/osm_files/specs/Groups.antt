@@ -53,7 +53,7 @@ groups input close (unit ∷ units) group =
     else
     (if is_after_group group unit.version then versions_then (to_ascending group)
     (groups input close units (unit.version ∷ []))
-    else end_refused (fault_of input (verdict_at unit.place Unsorted)))
+    else end_refused (fault_of input (verdict_at unit.offset Unsorted)))
 
 -- the versions that a source of these bytes gives, as the input `input`
 unfoldable pub sorted_source : ℕ → InputRest → SourceRest VersionData Fault
@@ -70,7 +70,7 @@ still_with_ready input units group ready =
 abbrev pub fresh_reading : {R : Type 0} → ℕ → R → Position R
 fresh_reading input reader = record {
   input = input;
-  place = 0;
+  offset = 0;
   held = [];
   rest = reader;
   stage = None;
@@ -169,7 +169,7 @@ still_known p c =
     else rest_of_units (with_rest p c))) [
       | true ↦ tt
       | false ↦ (elim p.ended as (λ t. IsKnown
-          (option_map (λ x. with_input p.input (units_from p.stage p.place x))
+          (option_map (λ x. with_input p.input (units_from p.stage p.offset x))
           (if t then Some (all_of p.held) else Some (with_front p.held c)))) [
             | true ↦ tt
             | false ↦ tt

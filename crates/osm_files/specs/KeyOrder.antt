@@ -21,8 +21,8 @@ use Rattle.osm_files.specs.Reason.{of_line}
 
 -- `count` bytes of a file from this offset on came after others
 abbrev pub CameAt : Option (List ℕ) → ℕ → List ℕ → List ℕ → ℕ → Type 0
-CameAt known place before after count =
-    (came : List ℕ) × AreAt known place came × (after ≡ before ++ came) × (length came ≡ count)
+CameAt known offset before after count =
+    (came : List ℕ) × AreAt known offset came × (after ≡ before ++ came) × (length came ≡ count)
 
 -- the keys of the versions don't fall from the key `before` on, and `after` is the last key
 abbrev pub AreRising : Option Key → List VersionData → Option Key → Type 0
@@ -55,16 +55,16 @@ lines_to bytes lines end = take (end - lines.end) bytes
 -- The reading stops in bytes after `lines`: the lines before it rise; or the bytes are no file, whatever follows them.
 -- Nothing follows the last ones.
 abbrev pub StopsIn : List ℕ → RisingLines → Bool → ℕ → Stop → Type 0
-StopsIn bytes lines is_last place Falls = (lines.end ≤ place) × (place ≤ lines.end + length bytes)
-    × ((after : Option Key) × Rise lines.last (lines_to bytes lines place) after)
-StopsIn bytes lines is_last place (Refused reason) =
+StopsIn bytes lines is_last offset Falls = (lines.end ≤ offset) × (offset ≤ lines.end + length bytes)
+    × ((after : Option Key) × Rise lines.last (lines_to bytes lines offset) after)
+StopsIn bytes lines is_last offset (Refused reason) =
     (reason ≡ opl.Memory) ⊎ ((more : List ℕ) → (is_last ≡ true → more ≡ []) → IsNoFile (bytes ++ more))
 
 -- the result of reading the lines that end in these bytes, which follow `lines`
 abbrev pub ReadsLines : List ℕ → RisingLines → Bool → Result RisingLines StopAt → Type 0
 ReadsLines bytes lines is_last (Ok read) = Rise lines.last (lines_to bytes lines read.end) read.last
     × (is_last ≡ false → EndsLine (lines_to bytes lines read.end))
-ReadsLines bytes lines is_last (Err stop) = StopsIn bytes lines is_last stop.place stop.why
+ReadsLines bytes lines is_last (Err stop) = StopsIn bytes lines is_last stop.offset stop.why
 
 -- the lines that were read end within the bytes that follow `lines`
 abbrev pub IsWithin : List ℕ → RisingLines → RisingLines → Type 0
@@ -75,7 +75,7 @@ abbrev pub EndsLines : List ℕ → RisingLines → Bool → Result RisingLines 
 EndsLines rest lines false result = result ≡ Ok lines
 EndsLines rest lines true (Ok read) =
     (read.end ≡ lines.end + length rest) × StepsOver lines.last rest (Ok read.last)
-EndsLines rest lines true (Err stop) = (stop.place ≡ lines.end) × StepsOver lines.last rest (Err stop.why)
+EndsLines rest lines true (Err stop) = (stop.offset ≡ lines.end) × StepsOver lines.last rest (Err stop.why)
 
 -- the bytes of a file from one offset up to another
 abbrev pub bytes_between : List ℕ → ℕ → ℕ → List ℕ
@@ -90,8 +90,8 @@ IsOrderOfLines Fails all start end (Err fault) = IsReadFailure Fails fault ⊎ I
 
 -- the result of a search that stops at a line
 abbrev pub outcome_at : ℕ → ℕ → Stop → Result (Option ℕ) Fault
-outcome_at input place Falls = Ok (Some place)
-outcome_at input place (Refused reason) = Err (fault_at input place (of_line reason))
+outcome_at input offset Falls = Ok (Some offset)
+outcome_at input offset (Refused reason) = Err (fault_at input offset (of_line reason))
 
 abbrev pub outcome_of : ℕ → StopAt → Result (Option ℕ) Fault
-outcome_of input stop = outcome_at input stop.place stop.why
+outcome_of input stop = outcome_at input stop.offset stop.why

@@ -17,7 +17,7 @@ use Rattle.osm_files.specs.Verdict.{length_limit, too_long_verdict}
 -- known before the first byte; whether the input has ended, and whether a call was refused.
 pub record Position (C : Type 0) : Type 0 where
   pub input : ℕ
-  pub place : ℕ
+  pub offset : ℕ
   pub held : List ℕ
   pub rest : C
   pub stage : Option FileStateData
@@ -28,7 +28,7 @@ pub record Position (C : Type 0) : Type 0 where
 abbrev pub at_start : {C : Type 0} → ℕ → C → Position C
 at_start input rest = record {
   input = input;
-  place = 0;
+  offset = 0;
   held = [];
   rest = rest;
   stage = None;
@@ -44,7 +44,7 @@ KnownPosition = Position (Option InputRest)
 abbrev pub with_rest : {R : Type 0} → Position R → InputRest → KnownPosition
 with_rest p c = record {
   input = p.input;
-  place = p.place;
+  offset = p.offset;
   held = p.held;
   rest = Some c;
   stage = p.stage;
@@ -72,19 +72,19 @@ state_or_start (Some stage) bytes = stage
 -- the verdict that closes a file with these bytes from an offset on, if it isn't closed by its own end: it is too long,
 -- or an error follows
 abbrev pub closing_verdict : ℕ → InputRest → Option Verdict
-closing_verdict place c =
-    if nat_lt (place + length c.bytes) length_limit
-    then (if c.broken then Some (verdict_at (place + length c.bytes) ReadFault) else None)
+closing_verdict offset c =
+    if nat_lt (offset + length c.bytes) length_limit
+    then (if c.broken then Some (verdict_at (offset + length c.bytes) ReadFault) else None)
     else Some too_long_verdict
 
 -- the bytes that count: those below the limit
 abbrev pub window : ℕ → InputRest → List ℕ
-window place c = if nat_lt (place + length c.bytes) length_limit then c.bytes
-    else take (length_limit - 1 - place) c.bytes
+window offset c = if nat_lt (offset + length c.bytes) length_limit then c.bytes
+    else take (length_limit - 1 - offset) c.bytes
 
 -- the units from an offset on
 unfoldable pub units_from : Option FileStateData → ℕ → InputRest → SourceRest Placed Verdict
-units_from stage place c = units (closing_verdict place c) (state_or_start stage c.bytes) place (window place c)
+units_from stage offset c = units (closing_verdict offset c) (state_or_start stage c.bytes) offset (window offset c)
 
 -- a verdict as the fault of an input
 abbrev pub fault_of : ℕ → Verdict → Fault
@@ -95,7 +95,7 @@ with_input input still = record { list = still.list; refusal = option_map (fault
 
 -- the rest, if it is known and no call was refused
 abbrev pub rest_of_units : KnownPosition → Option (SourceRest Placed Fault)
-rest_of_units p = option_map (λ c. with_input p.input (units_from p.stage p.place c)) (rest_of_bytes p)
+rest_of_units p = option_map (λ c. with_input p.input (units_from p.stage p.offset c)) (rest_of_bytes p)
 
 -- the rest, if it is known; after a refusal the result is Failed
 abbrev pub units_or_failed : KnownPosition → Option (SourceRest Placed Fault)
@@ -103,7 +103,7 @@ units_or_failed p = if p.failed then Some (end_refused (failed_fault p.input)) e
 
 -- a bound on the number of units still to come: each has at least one byte
 abbrev pub units_left : {C : Type 0} → Position C → ℕ
-units_left p = 2 ^ 62 - p.place
+units_left p = 2 ^ 62 - p.offset
 
 -- a known value is unchanged
 abbrev pub Keeps : {A : Type 0} → Option A → Option A → Type 0
@@ -112,7 +112,7 @@ Keeps before after = IfSome before (λ x. after ≡ Some x)
 -- more bytes were read: nothing was given, and a known rest is unchanged
 pub record ReadsOn (p q : KnownPosition) : Type 0 where
   pub input : q.input ≡ p.input
-  pub place : q.place ≡ p.place
+  pub offset : q.offset ≡ p.offset
   pub stage : q.stage ≡ p.stage
   pub failed : q.failed ≡ p.failed
   pub ahead : Keeps (rest_of_bytes p) (rest_of_bytes q)
@@ -120,7 +120,7 @@ pub record ReadsOn (p q : KnownPosition) : Type 0 where
 -- A position reads on to another, over all that their readers can give. The fields other than the remaining bytes are
 -- equal.
 pub record HasRead {R : Type 0} (can : R → InputRest → Type 0) (p q : Position R) : Type 0 where
-  pub place : q.place ≡ p.place
+  pub offset : q.offset ≡ p.offset
   pub stage : q.stage ≡ p.stage
   pub failed : q.failed ≡ p.failed
   pub reads : Between can p q ReadsOn
@@ -128,7 +128,7 @@ pub record HasRead {R : Type 0} (can : R → InputRest → Type 0) (p q : Positi
 -- no version was given, and a known rest is unchanged; units without a version may have been passed
 pub record KeepsRest (p q : KnownPosition) : Type 0 where
   pub input : q.input ≡ p.input
-  pub place : p.place ≤ q.place
+  pub offset : p.offset ≤ q.offset
   pub failed : q.failed ≡ p.failed
   pub keeps : Keeps (rest_of_units p) (rest_of_units q)
 
@@ -153,8 +153,8 @@ FindsUnit p (Err reason) q = (reason ≡ Memory)
 abbrev pub Halts : KnownPosition → InputRest → Fault → Type 0
 Halts p c fault =
     ((c ≡ record { bytes = p.held; broken = true })
-    × (fault ≡ fault_of p.input (verdict_at (p.place + length p.held) ReadFault)))
-    ⊎ ((p.place + length p.held + 1 ≡ 2 ^ 62) × ((b : ℕ) × (more : List ℕ) × (c.bytes ≡ p.held ++ b ∷ more))
+    × (fault ≡ fault_of p.input (verdict_at (p.offset + length p.held) ReadFault)))
+    ⊎ ((p.offset + length p.held + 1 ≡ 2 ^ 62) × ((b : ℕ) × (more : List ℕ) × (c.bytes ≡ p.held ++ b ∷ more))
     × (fault ≡ fault_of p.input too_long_verdict))
 
 -- why no more bytes can be read

@@ -1,6 +1,6 @@
 -- Results of reads, which are replayed: own rules of this project.
 use Rattle.std.specs.Borrow.{Bor}
-use Rattle.std.specs.Prelude.{◌≡◌, ◌⊎◌, ℕ, List, [], ◌∷◌, ◌++◌, drop, Option, Some, None, Result, Ok, Err}
+use Rattle.std.specs.Prelude.{◌≡◌, ℕ, List, [], ◌∷◌, ◌++◌, drop, Option, Some, None, Result, Ok, Err}
 use Rattle.osm_files.specs.declared.input.Broken.{Broken}
 use Rattle.osm_files.specs.Input.{InputRest, whole_input, broken_input, with_front}
 

@@ -82,7 +82,7 @@ input_verdict c = let us = units_from None 0 c in sorted_verdict us.refusal None
 
 -- the versions whose units begin before this offset
 abbrev pub versions_before : ℕ → InputRest → List VersionData
-versions_before place c = versions_of (filter (λ unit. nat_lt unit.place place) (units_from None 0 c).list)
+versions_before offset c = versions_of (filter (λ unit. nat_lt unit.offset offset) (units_from None 0 c).list)
 
 -- the key groups before the last one: the versions whose key is below that of the last version
 abbrev pub groups_before_last : List VersionData → List VersionData
@@ -90,7 +90,7 @@ groups_before_last versions = filter (λ v. is_below_last v versions) versions
 
 -- the key groups before the last one that began before this offset, ascending, each version once
 abbrev pub groups_before : ℕ → InputRest → List VersionData
-groups_before place c = to_ascending (groups_before_last (versions_before place c))
+groups_before offset c = to_ascending (groups_before_last (versions_before offset c))
 
 -- the source of a faulty input gives the key groups before the last one that began before the fault, and then the fault
 abbrev pub FaultyInputGivesTheGroupsBefore : Type 0

@@ -14,7 +14,7 @@ abbrev pub verdict_at : ℕ → Reason → Verdict
 verdict_at place reason = record { place = place; reason = reason }
 
 abbrev pub new_placed : ℕ → VersionData → Placed
-new_placed place v = record { place = place; version = v }
+new_placed offset v = record { offset = offset; version = v }
 
 -- the rest of a stream: its items, and then its end or a refusal
 pub record SourceRest (A E : Type 0) : Type 0 where

@@ -128,34 +128,34 @@ last_at PastEnd bytes = no_version PastEnd
 
 -- the rest from a unit on: its result, and then the units after it
 abbrev pub found_then : ℕ → UnitResult → (FileStateData → SourceRest Placed Verdict) → SourceRest Placed Verdict
-found_then place (Err reason) more = end_refused (verdict_at place reason)
-found_then place (Ok (None, next)) more = more next
-found_then place (Ok (Some v, next)) more = front (new_placed place v) (more next)
+found_then offset (Err reason) more = end_refused (verdict_at offset reason)
+found_then offset (Ok (None, next)) more = more next
+found_then offset (Ok (Some v, next)) more = front (new_placed offset v) (more next)
 
 -- the rest from the last bytes on: their result, or the verdict that closes the file
 abbrev pub final_units : Option Verdict → ℕ → UnitResult → SourceRest Placed Verdict
-final_units None place last = found_then place last (λ next. end_whole)
-final_units (Some verdict) place last = end_refused verdict
+final_units None offset last = found_then offset last (λ next. end_whole)
+final_units (Some verdict) offset last = end_refused verdict
 
 -- the rest from a whole unit on, or from the last bytes on if no unit is whole
 abbrev pub unit_then : Option Verdict → FileStateData → ℕ → List ℕ →
     (FileStateData → ℕ → List ℕ → SourceRest Placed Verdict) →
     Option FileUnit → SourceRest Placed Verdict
-unit_then close stage place bytes more None = final_units close place (last_at stage bytes)
-unit_then close stage place bytes more (Some u) =
-    found_then place u.found (λ next. more next (place + u.size) (drop u.size bytes))
+unit_then close stage offset bytes more None = final_units close offset (last_at stage bytes)
+unit_then close stage offset bytes more (Some u) =
+    found_then offset u.found (λ next. more next (offset + u.size) (drop u.size bytes))
 
--- The units of these bytes, each of at least one byte, for a reading at the offset `place` of a file. If no verdict
+-- The units of these bytes, each of at least one byte, for a reading at the offset `offset` of a file. If no verdict
 -- closes the file, the bytes are its last ones. If one does, only the whole units count. The first argument bounds the
 -- number of units.
 abbrev pub units_within : ℕ → Option Verdict → FileStateData → ℕ → List ℕ → SourceRest Placed Verdict
-units_within zero close stage place bytes = final_units close place (last_at stage bytes)
-units_within (suc most) close stage place bytes =
-    unit_then close stage place bytes (units_within most close) (unit_at stage bytes)
+units_within zero close stage offset bytes = final_units close offset (last_at stage bytes)
+units_within (suc most) close stage offset bytes =
+    unit_then close stage offset bytes (units_within most close) (unit_at stage bytes)
 
 -- the units of these bytes: there are no more units than bytes
 unfoldable pub units : Option Verdict → FileStateData → ℕ → List ℕ → SourceRest Placed Verdict
-units close stage place bytes = units_within (length bytes) close stage place bytes
+units close stage offset bytes = units_within (length bytes) close stage offset bytes
 
 -- a file whose first byte is ff is an o5 file, any other is an OPL file
 abbrev pub start_of : List ℕ → FileStateData

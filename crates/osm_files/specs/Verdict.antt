@@ -48,7 +48,7 @@ is_below_last v versions = is_below v (slice_get versions (length versions - 1))
 abbrev pub sorted_verdict : Option Verdict → Option VersionData → List Placed → Option Verdict
 sorted_verdict close before [] = close
 sorted_verdict close before (unit ∷ units) =
-    if is_below unit.version before then Some (verdict_at unit.place Unsorted)
+    if is_below unit.version before then Some (verdict_at unit.offset Unsorted)
     else sorted_verdict close (Some unit.version) units
 
 -- the verdict on order of a file

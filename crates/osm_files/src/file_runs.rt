@@ -1,9 +1,9 @@
 //! The sorted runs of a file whose versions may have any order. The file is split before each version that is out of
 //! order.
-ghost use Rattle.std.specs.Prelude.{◌≡◌, ◌↔◌, ◌+◌, ◌<◌, ◌≤◌, ◌^◌, IsTrue, true, Ok, Some, None, length, slice_get};
+ghost use Rattle.std.specs.Prelude.{◌≡◌, ◌+◌, ◌<◌, ◌≤◌, ◌^◌, true, Ok, Some, None, length, slice_get};
 ghost use Rattle.std.specs.Prelude.{IfOk, IfErr, OnOk, OnErr, IfSome};
 ghost use Rattle.std.specs.List.{All};
-ghost use Rattle.osm_files.specs.declared.reason.Reason.TheVariants.{Unsorted, ReadFault};
+ghost use Rattle.osm_files.specs.declared.reason.Reason.TheVariants.{ReadFault};
 ghost use Rattle.osm_files.specs.Fault.{IsOfFile};
 ghost use Rattle.osm_files.specs.FileRuns.{EndsWhole, StopsSource, GivesSortedFile, IfWhole, LastIsSorted};
 ghost use Rattle.osm_files.specs.FileRuns.{IsSortedRun, IsAccepted, IsAcceptedRun, IsSortedIfAccepted};
@@ -301,21 +301,14 @@ fn read_run<F: ReadAt>(
     match read_sorted(alloc, input, FramedExtent::of_run(file, size, run)) {
         Ok(()) => Ok(None),
         Err(fault) => {
-            let place = run.offset_in_file(fault.place);
-            if is_unsorted(fault.reason) {
-                Ok(Some(place))
+            let offset = run.offset_in_file(fault.place);
+            if fault.reason == Reason::Unsorted {
+                Ok(Some(offset))
             } else {
-                Err(Fault::at(input, place, fault.reason))
+                Err(Fault::at(input, offset, fault.reason))
             }
         }
     }
-}
-
-/// Whether the reason is that a version is out of order.
-fn is_unsorted(reason: Reason) -> bool
-    ensures { IsTrue result ↔ (reason ≡ Unsorted) }
-{
-    reason == Reason::Unsorted
 }
 
 /// Reads a sorted file to its end. `input` is its number.

@@ -44,7 +44,7 @@ impl Group {
         units: &mut Reading<R>,
     ) -> Result<Option<Version>, Fault>
         requires group { IsGroup self.old.first self.old.others.items }
-        ensures number { units.new.input ≡ units.old.input }
+        ensures input { units.new.input ≡ units.old.input }
         ensures failed { units.new.failed ≡ is_err result }
         ensures first { self.new.first ≡ self.old.first }
         ensures gathers { IfOk result (λ next. GathersOn R.can_give units.old self.old units.new self.new next) }
@@ -62,10 +62,10 @@ impl Group {
                 return Ok(Some(unit.version));
             }
             if order.is_gt() {
-                return Err(units.refuse(unit.place, Reason::Unsorted));
+                return Err(units.refuse(unit.offset, Reason::Unsorted));
             }
             if let Err(_) = self.others.push(unit.version) {
-                return Err(units.refuse(unit.place, Reason::Memory));
+                return Err(units.refuse(unit.offset, Reason::Memory));
             }
         }
     }

@@ -53,7 +53,7 @@ impl Source for HistorySource {
 
     ghost left = { size };
 
-    ghost number = { λ _. 0 };
+    ghost input = { λ _. 0 };
 
     ghost has_failed = { λ _. false };
 

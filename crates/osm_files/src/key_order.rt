@@ -38,7 +38,7 @@ enum Stop {
 /// The offset of the line at which a reading stops, and the reason.
 #[derive(Clone, Copy, Debug)]
 struct StopAt {
-    place: u64,
+    offset: u64,
     why: Stop,
 }
 
@@ -88,13 +88,13 @@ impl StopAt {
         ensures { result ≡ spec.outcome_of input self }
     {
         match self.why {
-            Stop::Falls => Ok(Some(self.place)),
-            Stop::Refused(reason) => Err(Fault::at(input, self.place, Reason::from(reason))),
+            Stop::Falls => Ok(Some(self.offset)),
+            Stop::Refused(reason) => Err(Fault::at(input, self.offset, Reason::from(reason))),
         }
     }
 }
 
-/// The `count` bytes of a file from `place` on.
+/// The `count` bytes of a file from `offset` on.
 ///
 /// # Errors
 ///
@@ -103,13 +103,13 @@ pub(crate) fn read_exact<F: ReadAt>(
     alloc: Global,
     file: &F,
     input: usize,
-    place: u64,
+    offset: u64,
     count: usize,
 ) -> Result<Vec<u8>, Fault>
-    requires { place + count < 2 ^ 64 }
+    requires { offset + count < 2 ^ 64 }
     ensures count { IfOk result (λ bytes. length bytes.items ≡ count) }
-    ensures bytes { IfOk result (λ bytes. AreAt (F.bytes file.now) place bytes.items) }
-    ensures failure { IfErr result (λ fault. IfSome (F.bytes file.now) (λ all. place + count ≤ length all
+    ensures bytes { IfOk result (λ bytes. AreAt (F.bytes file.now) offset bytes.items) }
+    ensures failure { IfErr result (λ fault. IfSome (F.bytes file.now) (λ all. offset + count ≤ length all
         → IsReadFailure (F.fails file.now) fault)) }
     ensures input { IfErr result (IsOfFile input) }
 {
@@ -117,7 +117,7 @@ pub(crate) fn read_exact<F: ReadAt>(
     bytes.resize(count, 0)?;
     let mut filled = 0;
     'reads: while filled < count {
-        let at = place + filled as u64;
+        let at = offset + filled as u64;
         match read_part(file, at, &mut bytes, filled, count - filled) {
             Ok(0) => return Err(Fault::at(input, at, Reason::ReadFault)),
             Err(Broken) => return Err(Fault::at(input, at, Reason::ReadFault)),
@@ -127,25 +127,25 @@ pub(crate) fn read_exact<F: ReadAt>(
     Ok(bytes)
 }
 
-/// Reads at most `most` bytes of a file from `place` on into `buffer[end..]`, and returns their number; 0 if there are
+/// Reads at most `most` bytes of a file from `offset` on into `buffer[end..]`, and returns their number; 0 if there are
 /// none.
 fn read_part<F: ReadAt>(
     file: &F,
-    place: u64,
+    offset: u64,
     buffer: &mut Vec<u8>,
     end: usize,
     most: usize,
 ) -> Result<usize, Broken>
     requires some { 0 < most }
     requires within { end + most ≤ length buffer.old.items }
-    ensures came { IfOk result (λ count. spec.CameAt (F.bytes file.now) place
+    ensures came { IfOk result (λ count. spec.CameAt (F.bytes file.now) offset
         (take end buffer.old.items) (take (end + count) buffer.new.items) count) }
     ensures most { IfOk result (λ count. count ≤ most) }
-    ensures end { result ≡ Ok 0 → AreLast (F.bytes file.now) place [] }
+    ensures end { result ≡ Ok 0 → AreLast (F.bytes file.now) offset [] }
     ensures broken { OnErr result (F.fails file.now) }
     ensures size { length buffer.new.items ≡ length buffer.old.items }
 {
-    match file.read_at(&mut buffer[end..end + most], place) {
+    match file.read_at(&mut buffer[end..end + most], offset) {
         Ok(count) => Ok(count),
         Err(broken) => Err(broken),
     }
@@ -173,13 +173,18 @@ fn read_lines(
     let mut read = 0;
     'lines: loop {
         let rest = &window[read..];
-        let place = lines.end + read as u64;
+        let offset = lines.end + read as u64;
         let Some(size) = find_line_end(rest) else {
-            return end_lines(&mut reader, rest, RisingLines { end: place, last }, is_last);
+            return end_lines(
+                &mut reader,
+                rest,
+                RisingLines { end: offset, last },
+                is_last,
+            );
         };
         match next_key(&mut reader, &rest[..size], last) {
             Ok(next) => last = next,
-            Err(why) => return Err(StopAt { place, why }),
+            Err(why) => return Err(StopAt { offset, why }),
         }
         read += size + 1;
     }
@@ -209,7 +214,7 @@ fn end_lines(
             last,
         }),
         Err(why) => Err(StopAt {
-            place: lines.end,
+            offset: lines.end,
             why,
         }),
     }

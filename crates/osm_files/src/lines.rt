@@ -33,7 +33,7 @@ const FAR: usize = 65536;
 pub fn line_start<F: ReadAt>(file: &F, input: usize, offset: u64, end: u64) -> Result<u64, Fault>
     ensures start { IfOk result (IsLineStart (F.bytes file.now) offset end) }
     ensures refused { IfErr result (IsReadFailure (F.fails file.now)) }
-    ensures number { IfErr result (IsOfFile input) }
+    ensures input { IfErr result (IsOfFile input) }
 {
     let near = offset.saturating_add(NEAR as u64).min(end);
     let start = search(file, input, offset, near, &mut [0u8; NEAR])?;
@@ -50,7 +50,7 @@ pub fn line_start<F: ReadAt>(file: &F, input: usize, offset: u64, end: u64) -> R
 fn search_far<F: ReadAt>(file: &F, input: usize, offset: u64, end: u64) -> Result<u64, Fault>
     ensures start { IfOk result (IsLineStart (F.bytes file.now) offset end) }
     ensures refused { IfErr result (IsReadFailure (F.fails file.now)) }
-    ensures number { IfErr result (IsOfFile input) }
+    ensures input { IfErr result (IsOfFile input) }
 {
     search(file, input, offset, end, &mut [0u8; FAR])
 }
@@ -66,24 +66,24 @@ fn search<F: ReadAt>(
     requires some { 0 < length buffer.old }
     ensures start { IfOk result (IsLineStart (F.bytes file.now) offset end) }
     ensures refused { IfErr result (IsReadFailure (F.fails file.now)) }
-    ensures number { IfErr result (IsOfFile input) }
+    ensures input { IfErr result (IsOfFile input) }
 {
     if offset == 0 {
         return Ok(0);
     }
-    // No line ends in the bytes from `offset - 1` up to `place`.
-    let mut place = offset - 1;
-    'reads: while place < end {
-        let most = (end - place).min(buffer.len() as u64) as usize;
-        let count = match file.read_at(&mut buffer[..most], place) {
-            Ok(0) => return Ok(place),
+    // No line ends in the bytes from `offset - 1` up to `reached`.
+    let mut reached = offset - 1;
+    'reads: while reached < end {
+        let most = (end - reached).min(buffer.len() as u64) as usize;
+        let count = match file.read_at(&mut buffer[..most], reached) {
+            Ok(0) => return Ok(reached),
             Ok(count) => count,
-            Err(Broken) => return Err(Fault::at(input, place, Reason::ReadFault)),
+            Err(Broken) => return Err(Fault::at(input, reached, Reason::ReadFault)),
         };
         if let Some(last) = find_line_end(&buffer[..count]) {
-            return Ok(place + last as u64 + 1);
+            return Ok(reached + last as u64 + 1);
         }
-        place += count as u64;
+        reached += count as u64;
     }
     Ok(end)
 }
@@ -103,7 +103,7 @@ pub fn first_version<F: ReadAt>(
     end: u64,
 ) -> Result<Option<Version>, Fault>
     ensures first { IsFirstBetween (F.fails file.now) (F.bytes file.now) start end result }
-    ensures number { IfErr result (IsOfFile input) }
+    ensures input { IfErr result (IsOfFile input) }
 {
     if start >= LENGTH_LIMIT {
         return Err(Fault::too_long(input));

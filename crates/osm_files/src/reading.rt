@@ -39,7 +39,7 @@ pub(crate) struct Reading<R: Input> {
     /// The bytes held: those that came and belong to no unit read so far.
     read_buffer: ReadBuffer,
     /// The offset in the file of the first byte held.
-    place: u64,
+    offset: u64,
     /// The stage of the reading; `None` before the first byte, which determines the grammar.
     stage: Option<FileState>,
     ended: bool,
@@ -55,7 +55,7 @@ impl<R: Input> Model for Reading<R> {
 
     ghost view = { λ r. record {
       input = r.input;
-      place = r.place;
+      offset = r.offset;
       held = r.read_buffer;
       rest = r.reader;
       stage = option_map state_data_of r.stage;
@@ -63,7 +63,7 @@ impl<R: Input> Model for Reading<R> {
       failed = r.failed;
     } };
 
-    ghost invariant = { λ r. (r.place + length r.read_buffer < 2 ^ 62) ×
+    ghost invariant = { λ r. (r.offset + length r.read_buffer < 2 ^ 62) ×
         (r.failed ≡ false → IfSome r.stage IsGoodState) };
 }
 
@@ -72,7 +72,7 @@ impl<R: Input> Reading<R> {
     pub(crate) fn new(alloc: Global, input: usize, reader: R) -> Reading<R>
         ensures { result ≡ record {
           input = input;
-          place = 0;
+          offset = 0;
           held = [];
           rest = reader;
           stage = None;
@@ -85,19 +85,19 @@ impl<R: Input> Reading<R> {
             input,
             reader,
             read_buffer: ReadBuffer::new(alloc),
-            place: 0,
+            offset: 0,
             stage: None,
             ended: false,
             failed: false,
         }
     }
 
-    /// A reading of the lines of an OPL file from the offset `place` on. `reader` gives the bytes from there.
-    pub(crate) fn of_lines(alloc: Global, input: usize, place: u64, reader: R) -> Reading<R>
-        requires { place < 2 ^ 62 }
+    /// A reading of the lines of an OPL file from `offset` on. `reader` gives the bytes from there.
+    pub(crate) fn of_lines(alloc: Global, input: usize, offset: u64, reader: R) -> Reading<R>
+        requires { offset < 2 ^ 62 }
         ensures { result ≡ record {
           input = input;
-          place = place;
+          offset = offset;
           held = [];
           rest = reader;
           stage = Some spec.InOpl;
@@ -106,7 +106,7 @@ impl<R: Input> Reading<R> {
         } }
     {
         let mut lines = Reading::new(alloc, input, reader);
-        lines.place = place;
+        lines.offset = offset;
         lines.stage = Some(FileState::Lines(LineReader::new(alloc)));
         lines
     }
@@ -134,9 +134,9 @@ impl<R: Input> Reading<R> {
         ensures kept { OnOk result (take (length self.old.held) self.new.held ≡ self.old.held) }
         ensures stops { IfErr result (StopsAt R.can_give self.old) }
         ensures refused { OnErr result (self.new.failed ≡ true) }
-        ensures number { self.new.input ≡ self.old.input }
+        ensures input { self.new.input ≡ self.old.input }
     {
-        let read = self.place + self.read_buffer.len() as u64;
+        let read = self.offset + self.read_buffer.len() as u64;
         let room = LENGTH_LIMIT - 1 - read;
         if room == 0 {
             return self.end_at_limit(read);
@@ -154,14 +154,14 @@ impl<R: Input> Reading<R> {
     /// Detects the end of an input that gave 2^62 - 1 bytes, the most that a file may have. One byte more is TooLong.
     fn end_at_limit(&mut self, read: u64) -> Result<(), Fault>
         requires unended { self.old.ended ≡ false }
-        requires place { read ≡ self.old.place + length self.old.held }
+        requires offset { read ≡ self.old.offset + length self.old.held }
         requires limit { read + 1 ≡ 2 ^ 62 }
         ensures on { OnOk result (HasRead R.can_give self.old self.new) }
         ensures ended { OnOk result (self.new.ended ≡ true) }
         ensures held { OnOk result (self.new.held ≡ self.old.held) }
         ensures stops { IfErr result (StopsAt R.can_give self.old) }
         ensures refused { OnErr result (self.new.failed ≡ true) }
-        ensures number { self.new.input ≡ self.old.input }
+        ensures input { self.new.input ≡ self.old.input }
     {
         let mut byte = [0u8; 1];
         match self.reader.read(&mut byte) {
@@ -196,9 +196,9 @@ impl<R: Input> Reading<R> {
         requires within { searched ≤ length self.old.held }
         requires none { spec.unit_at (state_at self.old) (take searched self.old.held) ≡ None }
         ensures found { FindsUnit self.old result self.new }
-        ensures bound { self.old.place + length self.old.held < 2 ^ 62 }
-        ensures place { self.new.place ≡ self.old.place }
-        ensures number { self.new.input ≡ self.old.input }
+        ensures bound { self.old.offset + length self.old.held < 2 ^ 62 }
+        ensures offset { self.new.offset ≡ self.old.offset }
+        ensures input { self.new.input ≡ self.old.input }
     {
         if self.stage.is_none() {
             self.detect_grammar();
@@ -219,17 +219,17 @@ impl<R: Input> Reading<R> {
     fn pass(&mut self, unit: ReadUnit) -> Option<Placed>
         requires { unit.size ≤ length self.old.held }
         ensures gone { self.new ≡ record self.old {
-          place = self.old.place + unit.size;
+          offset = self.old.offset + unit.size;
           held = drop unit.size self.old.held;
         } }
-        ensures gave { result ≡ option_map (new_placed self.old.place) unit.version }
+        ensures gave { result ≡ option_map (new_placed self.old.offset) unit.version }
     {
-        let place = self.place;
+        let offset = self.offset;
         self.read_buffer.skip(unit.size);
-        self.place += unit.size as u64;
+        self.offset += unit.size as u64;
         match unit.version {
             None => None,
-            Some(version) => Some(Placed { place, version }),
+            Some(version) => Some(Placed { offset, version }),
         }
     }
 
@@ -251,19 +251,19 @@ impl<R: Input> Reading<R> {
         requires ended { self.old.ended ≡ true }
         requires seen { self.old.stage ≡ None → self.old.held ≡ [] }
         requires nothing { spec.unit_at (state_at self.old) self.old.held ≡ None }
-        requires bound { self.old.place + length self.old.held < 2 ^ 62 }
+        requires bound { self.old.offset + length self.old.held < 2 ^ 62 }
         ensures step { StepsOn R.can_give self.old result self.new }
         ensures failed { self.new.failed ≡ is_err result }
         ensures fewer { IfOk result (λ given. IsSome given → units_left self.new < units_left self.old) }
-        ensures onward { OnOk result (self.old.place ≤ self.new.place) }
-        ensures number { self.new.input ≡ self.old.input }
+        ensures onward { OnOk result (self.old.offset ≤ self.new.offset) }
+        ensures input { self.new.input ≡ self.old.input }
     {
         match self.finish_stage() {
             Ok(version) => {
                 let size = self.read_buffer.len();
                 Ok(self.pass(ReadUnit { size, version }))
             }
-            Err(reason) => Err(self.refuse(self.place, reason)),
+            Err(reason) => Err(self.refuse(self.offset, reason)),
         }
     }
 
@@ -278,8 +278,8 @@ impl<R: Input> Reading<R> {
         ensures again { self.old.failed ≡ true → result ≡ Err (failed_fault self.old.input) }
         ensures failed { self.new.failed ≡ is_err result }
         ensures fewer { IfOk result (λ given. IsSome given → units_left self.new < units_left self.old) }
-        ensures onward { OnOk result (self.old.place ≤ self.new.place) }
-        ensures number { self.new.input ≡ self.old.input }
+        ensures onward { OnOk result (self.old.offset ≤ self.new.offset) }
+        ensures input { self.new.input ≡ self.old.input }
     {
         if self.failed {
             return Err(Fault::failed(self.input));
@@ -297,7 +297,7 @@ impl<R: Input> Reading<R> {
                     searched = self.read_buffer.len();
                     self.fill()?;
                 }
-                Err(reason) => return Err(self.refuse(self.place, reason)),
+                Err(reason) => return Err(self.refuse(self.offset, reason)),
             }
         }
     }
@@ -308,7 +308,7 @@ impl<R: Input> Reading<R> {
     ///
     /// The fault of the first bytes, or `Memory`. After an error [`Reading::next`] returns `Failed`.
     pub(crate) fn format(&mut self) -> Result<Format, Fault>
-        requires at_first { self.old.place ≡ 0 }
+        requires at_first { self.old.offset ≡ 0 }
         requires unseen { self.old.stage ≡ None }
         requires good { self.old.failed ≡ false }
         ensures shown { IfOk result (λ format. Between R.can_give self.old self.new (DeterminesFormat format)) }
@@ -339,13 +339,13 @@ impl<R: Input> Reading<R> {
         }
     }
 
-    /// Returns the fault for `reason` at the offset `place`, and makes every later call fail.
-    pub(crate) fn refuse(&mut self, place: u64, reason: Reason) -> Fault
+    /// Returns the fault for `reason` at `offset`, and makes every later call fail.
+    pub(crate) fn refuse(&mut self, offset: u64, reason: Reason) -> Fault
         ensures failed { self.new ≡ record self.old { failed = true } }
-        ensures fault { result ≡ fault_at self.old.input place reason }
+        ensures fault { result ≡ fault_at self.old.input offset reason }
     {
         self.failed = true;
-        Fault::at(self.input, place, reason)
+        Fault::at(self.input, offset, reason)
     }
 }
 

@@ -43,7 +43,7 @@ pub trait Source {
     ghost left: { Self → ℕ };
 
     /// The number of the source's input, which its fault `Failed` has.
-    ghost number: { Self → ℕ };
+    ghost input: { Self → ℕ };
 
     /// Whether a call of the source was refused.
     ghost has_failed: { Self → Bool };
@@ -63,9 +63,9 @@ pub trait Source {
     fn next(&mut self) -> Result<Option<Version>, Fault>
         ensures step { SourceSteps can_give self.old result self.new }
         ensures fewer { IfOk result (λ given. IsSome given → left self.new < left self.old) }
-        ensures again { has_failed self.old ≡ true → result ≡ Err (failed_fault (number self.old)) }
+        ensures again { has_failed self.old ≡ true → result ≡ Err (failed_fault (input self.old)) }
         ensures failed { has_failed self.new ≡ is_err result }
-        ensures number { number self.new ≡ number self.old };
+        ensures input { input self.new ≡ input self.old };
 
     /// Takes back a version that isn't needed any more. The source makes a later version in that memory, or drops the
     /// version.
@@ -153,7 +153,7 @@ impl<R: Input> FileSource<R> {
         ensures step { FileSteps R.can_give self.old result self.new }
         ensures again { self.old.units.failed ≡ true → result ≡ Err (failed_fault self.old.units.input) }
         ensures failed { self.new.units.failed ≡ is_err result }
-        ensures number { self.new.units.input ≡ self.old.units.input }
+        ensures input { self.new.units.input ≡ self.old.units.input }
         ensures fewer { IfOk result (λ given. IsSome given → versions_left self.new < versions_left self.old) }
     {
         let Some(first) = self.begin()? else {
@@ -168,7 +168,7 @@ impl<R: Input> FileSource<R> {
             return Ok(Some(first));
         }
         if order.is_gt() {
-            return Err(self.units.refuse(second.place, Reason::Unsorted));
+            return Err(self.units.refuse(second.offset, Reason::Unsorted));
         }
         self.next_of_many(first, second.version)
     }
@@ -178,7 +178,7 @@ impl<R: Input> FileSource<R> {
     fn begin(&mut self) -> Result<Option<Version>, Fault>
         requires nothing { self.old.ready ≡ [] }
         ensures taken { (self.new.group ≡ []) × (self.new.ready ≡ []) }
-        ensures number { self.new.units.input ≡ self.old.units.input }
+        ensures input { self.new.units.input ≡ self.old.units.input }
         ensures again { self.old.units.failed ≡ true
             → (self.new.units.failed ≡ true) × IfErr result (λ fault. fault ≡ failed_fault self.old.units.input) }
         ensures failed { OnErr result (self.new.units.failed ≡ true) }
@@ -199,7 +199,7 @@ impl<R: Input> FileSource<R> {
         requires group { IsGroup first (second ∷ []) }
         ensures step { FileSteps R.can_give (with_group self.old (first ∷ second ∷ [])) result self.new }
         ensures failed { self.new.units.failed ≡ is_err result }
-        ensures number { self.new.units.input ≡ self.old.units.input }
+        ensures input { self.new.units.input ≡ self.old.units.input }
         ensures fewer { IfOk result (λ given. IsSome given →
             versions_left self.new < versions_left (with_group self.old (first ∷ second ∷ []))) }
     {
@@ -256,7 +256,7 @@ impl<R: Input> Source for FileSource<R> {
 
     ghost left = { λ s. versions_left s };
 
-    ghost number = { λ s. s.units.input };
+    ghost input = { λ s. s.units.input };
 
     ghost has_failed = { λ s. s.units.failed };
 
@@ -284,7 +284,7 @@ impl<R: Input> Source for FileSource<R> {
 /// merge. Three such functions of this crate bring 2 percent of a merge of o5m files.
 #[inline(never)]
 fn begin_next<R: Input>(units: &mut Reading<R>) -> Result<Option<Version>, Fault>
-    ensures number { units.new.input ≡ units.old.input }
+    ensures input { units.new.input ≡ units.old.input }
     ensures again { units.old.failed ≡ true → result ≡ Err (failed_fault units.old.input) }
     ensures failed { units.new.failed ≡ is_err result }
     ensures begins { BeginsOn R.can_give units.old [] result units.new }

@@ -1,10 +1,10 @@
 pub mod OrderLaws
-mod AscendingLaws
+pub mod AscendingLaws
 mod TreeLaws
 pub mod GiveLaws
 mod Asking
 pub mod PassLaws
-mod SelectedLaws
+pub mod SelectedLaws
 mod Choosing
 mod NewestLaws
 mod State

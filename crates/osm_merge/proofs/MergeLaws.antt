@@ -8,9 +8,11 @@ use Rattle.std.specs.Cmp.{upto, tied_itself}
 use Rattle.std.specs.List.{list_any}
 use Rattle.std.specs.List.Sorted.{IsStrictlySortedBy}
 use Rattle.std.proofs.lemmas.List.Folds.{list_any-append}
-use Rattle.std.proofs.lemmas.Bool.{false≢true, cases_eq}
+use Rattle.std.proofs.lemmas.Bool.{false≢true, cases_eq, and_parts, and_cases, and_right}
+use Rattle.std.proofs.Math.Bool.{or-true}
 use Rattle.osm_model.specs.Data.{VersionData}
 use Rattle.osm_model.specs.Order.{version_cmp, version_cmp_total}
+use Rattle.osm_model.proofs.SetLaws.{is_less}
 use Rattle.osm_files.specs.Stream.{end_whole}
 use Rattle.osm_merge.specs.ToCome.{VersionsToCome, rest, head, after_head, rest_at}
 use Rattle.osm_merge.specs.Members.{first}
@@ -19,7 +21,7 @@ use Rattle.osm_merge.specs.declared.selection.Selection.{Selection}
 use Rattle.osm_merge.specs.Pass.{is_new}
 use Rattle.osm_merge.specs.Pass.{passes, is_met, pending_next, met_next}
 use Rattle.osm_merge.specs.Tree.{IsHeadUpTo}
-use Rattle.osm_merge.proofs.OrderLaws.{is_less, same_unless_greater, equal_versions}
+use Rattle.osm_merge.proofs.OrderLaws.{same_unless_greater, equal_versions}
 use Rattle.osm_merge.proofs.AscendingLaws.{one_ascends, rest_ascends, floor_first, floor_rest, ascends_on, among}
 use Rattle.osm_merge.proofs.State.{Ends, Floor, IsUnder, IsMerging}
 
@@ -86,20 +88,10 @@ ascends_with (Some l) v put e is h =
     (ascends_on version_cmp_total (e.0) l (v ∷ []) (subst (IsStrictlySortedBy version_cmp) e.1 h) (one_ascends version_cmp v)
     (is_less (version_cmp l v) is, tt))
 
--- If a conjunction is true, both parts are.
-pub both_so : (a b : Bool) → (a && b) ≡ true → (a ≡ true) × (b ≡ true)
-both_so true true h = (refl, refl)
-both_so true false h = absurd (false≢true h)
-both_so false b h = absurd (false≢true h)
-
-not_both : (a b : Bool) → (a && b) ≡ false → (a ≡ false) ⊎ (b ≡ false)
-not_both true b h = inr h
-not_both false b h = inl refl
-
 -- a version that is met is greater than the pending one
 pub met_is_new : (selection : Selection) (pending : Option VersionData) (v : VersionData) → is_met selection pending v ≡ true →
     is_new pending v ≡ true
-met_is_new selection pending v is = (both_so (is_new pending v) (passes selection v) is).0
+met_is_new selection pending v is = (and_parts (is_new pending v) (passes selection v) is).0
 
 -- The versions that were met still ascend strictly with the next one.
 pub ascends_next : (selection : Selection) (pending : Option VersionData) (v : VersionData) (met : List VersionData) → Ends pending met →
@@ -143,7 +135,7 @@ reached_next : (selection : Selection) (pending : Option VersionData) (v : Versi
 reached_next selection pending v f pass =
     elim (is_met selection pending v) as (λ b. is_met selection pending v ≡ b → cond b (Some v) pending ≡ Some v) [
       | true ↦ λ is. refl
-      | false ↦ λ is. elim (not_both (is_new pending v) (passes selection v) is) [
+      | false ↦ λ is. elim (and_cases (is_new pending v) (passes selection v) is) [
         | inl old ↦ old_is_last pending v f old
         | inr out ↦ absurd (false≢true (sym out ∙ pass))
       ]
@@ -154,26 +146,18 @@ join_new true e c p h = refl
 join_new false true c p h = h refl
 join_new false false c p h = refl
 
-and_out : (c p : Bool) → p ≡ false → (c && p) ≡ false
-and_out true p h = h
-and_out false p h = refl
-
 join_old : (a e c p : Bool) → (e ≡ true → (a ≡ true) ⊎ (p ≡ false)) → (a || ((e || c) && p)) ≡ (a || (c && p))
 join_old true e c p h = refl
 join_old false true c p h =
     elim (h refl) [
       | inl here ↦ absurd (false≢true here)
-      | inr out ↦ out ∙ sym (and_out c p out)
+      | inr out ↦ out ∙ sym (and_right c p out)
     ]
 join_old false false c p h = refl
 
-or_true : (b : Bool) → (b || true) ≡ true
-or_true true = refl
-or_true false = refl
-
 pub among_end : (q v : VersionData) (front : List VersionData) → eq_by_cmp version_cmp q v ≡ true → among q (front ++ v ∷ []) ≡ true
 among_end q v [] h = λ i. h i || false
-among_end q v (w ∷ ws) h = ap (λ t. eq_by_cmp version_cmp q w || t) (among_end q v ws h) ∙ or_true (eq_by_cmp version_cmp q w)
+among_end q v (w ∷ ws) h = ap (λ t. eq_by_cmp version_cmp q w || t) (among_end q v ws h) ∙ or-true (eq_by_cmp version_cmp q w)
 
 -- A version that ties with the last version of a list is among the versions of the list.
 pub among_ends : (q v : VersionData) (put : List VersionData) → Ends (Some v) put → eq_by_cmp version_cmp q v ≡ true → among q put ≡ true
@@ -189,11 +173,11 @@ same_next selection pending v met q more e f =
     ≡ (among q (cond b (met ++ v ∷ []) met) || (more && passes selection q))) [
       | true ↦ λ is.
           join_new (among q met) (eq_by_cmp version_cmp q v) more (passes selection q)
-          (λ tied. ap (passes selection) (equal_versions q v tied) ∙ (both_so (is_new pending v) (passes selection v) is).1)
+          (λ tied. ap (passes selection) (equal_versions q v tied) ∙ (and_parts (is_new pending v) (passes selection v) is).1)
           ∙ ap (λ t. t || (more && passes selection q)) (sym (list_any-append (eq_by_cmp version_cmp q) met (v ∷ [])))
       | false ↦ λ is.
           join_old (among q met) (eq_by_cmp version_cmp q v) more (passes selection q)
-          (λ tied. elim (not_both (is_new pending v) (passes selection v) is) [
+          (λ tied. elim (and_cases (is_new pending v) (passes selection v) is) [
             | inl old ↦ inl (among_ends q v met (subst (λ l. Ends l met) (old_is_last pending v f old) e) tied)
             | inr out ↦ inr (ap (passes selection) (equal_versions q v tied) ∙ out)
           ])

@@ -3,6 +3,7 @@ use Rattle.std.proofs.Common.{◌≡◌, Bool, true, false, not, ◌&&◌, ◌||
 use Rattle.std.proofs.lemmas.Bool.{false≢true}
 use Rattle.std.specs.Cmp.{first_so, second_so}
 use Rattle.std.specs.List.{AllByRecursion}
+use Rattle.std.proofs.Math.Bool.{or-false}
 use Rattle.osm_model.specs.declared.object.Object.{Object}
 use Rattle.osm_model.specs.Data.{VersionData}
 use Rattle.osm_model.specs.Order.{version_cmp_total}
@@ -33,16 +34,12 @@ either : (a b : Bool) (C : Type 0) → (a || b) ≡ true → (a ≡ true → C) 
 either true b C e f g = f refl
 either false b C e f g = g e
 
-or_none : (a : Bool) → (a || false) ≡ a
-or_none true = refl
-or_none false = refl
-
 -- the members of sets within spans reach the bound at which the first span begins
 pub all_reach : (from : Option Object) (bounds : List Object) (sets : List VersionSet) → Rise from bounds →
     Pairwise IsWithin (spans_from from bounds) sets → (v : VersionData) → some_has sets v ≡ true → reaches from v ≡ true
 all_reach from [] [] h k v e = absurd k
 all_reach from [] (s ∷ t ∷ sets) h k v e = absurd k.1
-all_reach from [] (s ∷ []) h k v e = first_so _ _ (has_within (span_of from None) s k.0 v (sym (or_none (contains s v)) ∙ e))
+all_reach from [] (s ∷ []) h k v e = first_so _ _ (has_within (span_of from None) s k.0 v (sym (or-false (contains s v)) ∙ e))
 all_reach from (bound ∷ bounds) [] h k v e = absurd k
 all_reach from (bound ∷ bounds) (s ∷ sets) h k v e =
     either (contains s v) (some_has sets v) (reaches from v ≡ true) e

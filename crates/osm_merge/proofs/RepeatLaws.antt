@@ -29,10 +29,10 @@ pub nothing_known : (selection : Selection) (heads : List (Option VersionData)) 
 nothing_known selection heads = record { tied = tt; past = tt }
 
 -- a head that is known to repeat the version taken last is not met
-pub known_past : {selection : Selection} {pending : Option VersionData} {heads : List (Option VersionData)} {repeats : Repeats} (place : ℕ)
-    (v : VersionData) → AreTrueRepeats selection pending heads repeats → repeats.taken ≡ Some place → get_or heads place None ≡ Some v
+pub known_past : {selection : Selection} {pending : Option VersionData} {heads : List (Option VersionData)} {repeats : Repeats} (index : ℕ)
+    (v : VersionData) → AreTrueRepeats selection pending heads repeats → repeats.taken ≡ Some index → get_or heads index None ≡ Some v
     → is_met selection pending v ≡ false
-known_past {selection} {pending} {heads} place v known is at =
+known_past {selection} {pending} {heads} index v known is at =
     subst (IsPast selection pending) at (subst (IsPastAt selection pending heads) is known.past)
 
 known_with : (tie : Tie) (o : Option ℕ) → comparison_count (repeats_after o tie) ≡ 1
@@ -40,9 +40,9 @@ known_with tie None = refl
 known_with tie (Some other) = refl
 
 -- after a head was taken, the known equal heads count as many comparisons as the tie before
-pub known_then : (tie : Option Tie) (place : ℕ) → comparison_count (repeats_after_taking tie place) ≡ one_if tie
-known_then None place = refl
-known_then (Some tie) place = known_with tie (other_index tie place)
+pub known_then : (tie : Option Tie) (index : ℕ) → comparison_count (repeats_after_taking tie index) ≡ one_if tie
+known_then None index = refl
+known_then (Some tie) index = known_with tie (other_index tie index)
 
 -- the head of the source `w` is taken
 module _ (selection : Selection) (pending : Option VersionData) (heads : List (Option VersionData)) (w : ℕ) (v : VersionData)
@@ -54,12 +54,12 @@ module _ (selection : Selection) (pending : Option VersionData) (heads : List (O
   abbrev IsKnownNow : Repeats → Type 0
   IsKnownNow repeats = IsTied heads2 repeats.tie × IsPastAt selection (pending_next selection pending v) heads2 repeats.taken
 
-  stays_at : (place : ℕ) → (place == w) ≡ false → get_or heads2 place None ≡ get_or heads place None
-  stays_at place h = get_or-set_other heads w place given None (eqb-false place w h)
+  stays_at : (index : ℕ) → (index == w) ≡ false → get_or heads2 index None ≡ get_or heads index None
+  stays_at index h = get_or-set_other heads w index given None (eqb-false index w h)
 
-  past_at : (place : ℕ) → (place == w) ≡ false → get_or heads place None ≡ get_or heads w None →
-      IsPastAt selection (pending_next selection pending v) heads2 (Some place)
-  past_at place h same = subst (IsPast selection (pending_next selection pending v)) (sym (stays_at place h ∙ same ∙ at_w))
+  past_at : (index : ℕ) → (index == w) ≡ false → get_or heads index None ≡ get_or heads w None →
+      IsPastAt selection (pending_next selection pending v) heads2 (Some index)
+  past_at index h same = subst (IsPast selection (pending_next selection pending v)) (sym (stays_at index h ∙ same ∙ at_w))
       (past_itself selection pending v)
 
   -- The known equal heads are still equal after a head was taken.

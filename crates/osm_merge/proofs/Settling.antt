@@ -10,6 +10,7 @@ use Rattle.osm_model.specs.Data.{VersionData}
 use Rattle.osm_merge.specs.declared.selection.Selection.{Selection}
 use Rattle.osm_merge.specs.declared.selection.Selection.TheVariants.{All, Visible, Newest, NewestVisible, State, StateVisible, Between}
 use Rattle.osm_model.specs.Order.{version_cmp}
+use Rattle.osm_files.proofs.GroupLaws.{all_append}
 use Rattle.osm_merge.specs.Members.{first}
 use Rattle.osm_merge.specs.Pass.{keeps, singleton_if, versions_that_stay, decided_versions, settled_versions, puts_at_once, put_of}
 use Rattle.osm_merge.specs.Pass.{pending_if_kept, put_at, put_at_end, versions_put, is_met}
@@ -19,10 +20,6 @@ use Rattle.osm_merge.proofs.AscendingLaws.{one_ascends, first_below, rest_ascend
 use Rattle.osm_merge.proofs.PassLaws.{keep_all, kept_end, settled_next}
 
 -- ---- the output of a pass ascends
-pub all_append : {K : Type 0} (P : K → Type 0) (xs ys : List K) → AllByRecursion P xs → AllByRecursion P ys → AllByRecursion P (xs ++ ys)
-all_append P [] ys h k = k
-all_append P (x ∷ xs) ys h k = (h.0, all_append P xs ys h.1 k)
-
 all_only : {K : Type 0} (P : K → Type 0) (b : Bool) (x : K) → P x → AllByRecursion P (singleton_if b x)
 all_only P true x h = (h, tt)
 all_only P false x h = tt

@@ -1,20 +1,19 @@
 -- Slices: a set's list is cut at its bounds, and only an object's versions decide its selection.
 use Rattle.std.proofs.Common.{◌≡◌, ℕ, suc, ◌+◌, Bool, true, false, not, ◌&&◌, cond, List, [], ◌∷◌, ◌++◌, map, refl, sym, ap, ◌∙◌, arith}
 use Rattle.std.proofs.Common.{Option, Some, None, option_map, is_none, append-nil, ◌<◌, zero, get_or, length}
-use Rattle.std.proofs.lemmas.Bool.{false≢true}
+use Rattle.std.proofs.lemmas.Bool.{false≢true, not-true}
 use Rattle.std.specs.declared.cmp.Ordering.{Ordering}
-use Rattle.std.specs.declared.cmp.Ordering.TheVariants.{Less, Equal, Greater}
-use Rattle.std.specs.Ordering.{is_lt, is_gt, ordering_reverse}
-use Rattle.std.specs.Cmp.{IsTotalOrder, Equal-is, upto, first_so, then_total, on_total, nat_cmp_total, bool_cmp_total}
-use Rattle.std.specs.Prelude.{unsigned_abs}
+use Rattle.std.specs.declared.cmp.Ordering.TheVariants.{Less}
+use Rattle.std.specs.Ordering.{is_lt}
+use Rattle.std.specs.Cmp.{Equal-is, first_so}
 use Rattle.std.specs.List as list
 use Rattle.std.specs.List.{filter, flat_map, concat, AllByRecursion}
 use Rattle.std.specs.List.Sorted.{IsStrictlySortedBy, IsSorted}
 use Rattle.std.proofs.lemmas.List.Elements.{filter_agree, All-head, All-tail}
 use Rattle.std.proofs.lemmas.Grind.{flat_map-append}
+use Rattle.std.proofs.Math.Bool.{and-true}
 use Rattle.osm_model.specs.declared.object.Object.{Object}
 use Rattle.osm_model.specs.Data.{VersionData}
-use Rattle.osm_model.specs.Kind.{kind_order}
 use Rattle.osm_model.specs.Order.{version_cmp, version_cmp_total, object_cmp, object_of, object_order, object_order_total}
 use Rattle.osm_model.specs.VersionSet.{VersionSet}
 use Rattle.osm_model.specs.Sets.{to_list, contains}
@@ -38,10 +37,6 @@ use Rattle.osm_merge.proofs.SnapLaws.{contains-retain, retain_all}
 use Rattle.osm_files.proofs.SpellLaws.{equal_sets as equal}
 
 -- ---- a bound
-not_true : (b : Bool) → not b ≡ true → b ≡ false
-not_true true h = absurd (false≢true h)
-not_true false h = refl
-
 -- a version that is less than one under a bound is under it, too
 pub under_down : (bound : Object) (v w : VersionData) → version_cmp v w ≡ Less → is_under (Some bound) w ≡ true →
     is_under (Some bound) v ≡ true
@@ -83,12 +78,8 @@ abbrev pub IsAtMost : Option Object → Object → Type 0
 IsAtMost None bound = Unit {0}
 IsAtMost (Some from) bound = is_lt (object_order bound from) ≡ false
 
-and_true : (a : Bool) → (a && true) ≡ a
-and_true true = refl
-and_true false = refl
-
 after_bound : (r n : Bool) → (n ≡ true → r ≡ true) → ((r && true) && n) ≡ (n && true)
-after_bound true n h = sym (and_true n)
+after_bound true n h = sym (and-true n)
 after_bound false true h = absurd (false≢true (h refl))
 after_bound false false h = refl
 
@@ -96,7 +87,7 @@ after_bound false false h = refl
 pub reaches_lower : (from : Option Object) (bound : Object) → IsAtMost from bound → (v : VersionData) →
     not (is_under (Some bound) v) ≡ true → reaches from v ≡ true
 reaches_lower None bound low v h = refl
-reaches_lower (Some from) bound low v h = ap not (not_below (object_of v) bound from (not_true _ h) low)
+reaches_lower (Some from) bound low v h = ap not (not_below (object_of v) bound from (not-true _ h) low)
 
 cut_slice : (from : Option Object) (bound : Object) (s : VersionSet) → IsAtMost from bound →
     to_list (slice_of from None s) ≡ to_list (slice_of from (Some bound) s) ++ to_list (slice_of (Some bound) None s)
@@ -107,7 +98,7 @@ cut_slice from bound s low =
     let front : filter under whole ≡ to_list (slice_of from (Some bound) s) =
     ap (filter under) (listed_with s (is_within from None)) ∙ filter_filter (is_within from None) under (to_list s)
     ∙ filter_agree (λ v. is_within from None v && under v) (is_within from (Some bound))
-    (λ v. ap (λ b. b && under v) (and_true (reaches from v))) (to_list s)
+    (λ v. ap (λ b. b && under v) (and-true (reaches from v))) (to_list s)
     ∙ sym (listed_with s (is_within from (Some bound))) in
     let back : filter over whole ≡ to_list (slice_of (Some bound) None s) =
     ap (filter over) (listed_with s (is_within from None)) ∙ filter_filter (is_within from None) over (to_list s)
@@ -162,7 +153,7 @@ spans_rise None (bound ∷ bounds) h = (
       (spans_from (Some bound) bounds) h),
 )
 spans_rise (Some from) (bound ∷ bounds) h = (
-  not_true _ (All-head (λ span. is_ascending span ≡ true) (span_of (Some from) (Some bound)) (spans_from (Some bound) bounds) h),
+  not-true _ (All-head (λ span. is_ascending span ≡ true) (span_of (Some from) (Some bound)) (spans_from (Some bound) bounds) h),
   spans_rise (Some bound) bounds
       (All-tail (λ span. is_ascending span ≡ true) (span_of (Some from) (Some bound)) (spans_from (Some bound) bounds) h),
 )
@@ -174,7 +165,7 @@ ascending_spans_are_sorted bounds h = λ k d from within. bound_at None bounds (
 whole_slice : (s : VersionSet) → slice_of None None s ≡ s
 whole_slice s =
     same_set version_cmp_total version_cmp-IsAntisymmetric _ _ (λ q.
-    contains-retain version_cmp_total version_cmp-IsAntisymmetric s (is_within None None) q ∙ and_true (contains s q))
+    contains-retain version_cmp_total version_cmp-IsAntisymmetric s (is_within None None) q ∙ and-true (contains s q))
 
 -- ---- lines
 lines_of_all : (sets : List VersionSet) → lines (flat_map to_list sets) ≡ concat (map (spell Opl) sets)
@@ -227,7 +218,7 @@ and_own true false b c h = sym (and_none true c ∙ refl) ∙ and_turn true fals
 and_own false false b c h = refl
 
 and_next : (a b p : Bool) → (b ≡ true → p ≡ true) → ((a && p) && b) ≡ (a && b)
-and_next a true p h = and_true (a && p) ∙ ap (λ t. a && t) (h refl)
+and_next a true p h = and-true (a && p) ∙ ap (λ t. a && t) (h refl)
 and_next a false p h = and_turn a p false ∙ and_none a p
 
 -- two tests can be applied in either order

@@ -107,16 +107,16 @@ all_inside p r fault (v ∷ vs) none =
     ] refl none
 
 -- a source whose first version outside would be refused, and that is whole, has no version outside
-pub record IsInside (number : ℕ) (span : Span) (c : VersionsToCome) : Type 0 where
+pub record IsInside (input : ℕ) (span : Span) (c : VersionsToCome) : Type 0 where
   pub whole : c.refusal ≡ None
-  pub list : (refused_outside number span c).list ≡ c.list
+  pub list : (refused_outside input span c).list ≡ c.list
   pub within : IsWithin span (from_list {R = version_cmp} c.list)
 
 -- If no version is refused for being outside the span, all versions are inside.
-pub refused_is_inside : (number : ℕ) (span : Span) (c : VersionsToCome) → (refused_outside number span c).refusal ≡ None →
-    IsInside number span c
-refused_is_inside number span c none =
-    let all = all_inside (is_within span.from span.to) c.refusal (stray_fault number) c.list none in record {
+pub refused_is_inside : (input : ℕ) (span : Span) (c : VersionsToCome) → (refused_outside input span c).refusal ≡ None →
+    IsInside input span c
+refused_is_inside input span c none =
+    let all = all_inside (is_within span.from span.to) c.refusal (stray_fault input) c.list none in record {
       whole = all.whole;
       list = all.list;
       within = sym (set_filtered span.from span.to c.list) ∙ ap (from_list {R = version_cmp}) all.inside;
@@ -134,10 +134,10 @@ all_pass p end r (v ∷ vs) is =
     ] is
 
 -- a source without versions outside gives all its versions
-pub inside_is_given : (number : ℕ) (span : Span) (c : VersionsToCome) → Ascends c → IsWithin span (from_list {R = version_cmp} c.list) →
-    refused_outside number span c ≡ c
-inside_is_given number span c up within =
+pub inside_is_given : (input : ℕ) (span : Span) (c : VersionsToCome) → Ascends c → IsWithin span (from_list {R = version_cmp} c.list) →
+    refused_outside input span c ≡ c
+inside_is_given input span c up within =
     let p : VersionData → Bool = is_within span.from span.to in
     let same : from_list {R = version_cmp} (filter p c.list) ≡ from_list c.list = set_filtered span.from span.to c.list ∙ within in
-    all_pass p (end_refused (stray_fault number)) c.refusal c.list
+    all_pass p (end_refused (stray_fault input)) c.refusal c.list
     (sym (to_list-view (filter p c.list) (IsStrictlySortedBy-filter version_cmp p c.list up)) ∙ ap to_list same ∙ to_list-view c.list up)

@@ -3,7 +3,7 @@ use Rattle.std.proofs.Common.{◌≡◌, true, false, cond, List, [], ◌∷◌,
 use Rattle.std.proofs.lemmas.Bool.{false≢true}
 use Rattle.std.specs.declared.cmp.Ordering.{Ordering}
 use Rattle.std.specs.declared.cmp.Ordering.TheVariants.{Less, Equal, Greater}
-use Rattle.std.specs.Ordering.{ordering_then, ordering_reverse, is_eq, is_gt, is_lt}
+use Rattle.std.specs.Ordering.{ordering_reverse, is_eq, is_gt, is_lt}
 use Rattle.std.specs.Cmp.{IsTotalOrder, tied_back}
 use Rattle.std.specs.List.{AllByRecursion}
 use Rattle.std.specs.List.Sorted.{IsStrictlySortedBy}
@@ -14,7 +14,7 @@ use Rattle.osm_model.specs.VersionSet.{VersionSet}
 use Rattle.osm_model.specs.Sets.{to_list, from_list, union}
 use Rattle.osm_model.proofs.MergedLaws.{merge-less, merge-equal, merge-greater, sorted_merged, from_list-merged}
 use Rattle.osm_model.proofs.SetLaws.{to_list-from_list, strict-listed}
-use Rattle.osm_model.proofs.VersionLaws.{version_cmp-IsAntisymmetric}
+use Rattle.osm_model.proofs.VersionLaws.{version_cmp-IsAntisymmetric, less_first}
 use Rattle.osm_model.proofs.ObjectLaws.{object_rises}
 use Rattle.osm_merge.specs.declared.selection.Selection.TheVariants.{Newest}
 use Rattle.osm_merge.specs.Members.{first}
@@ -30,11 +30,8 @@ use Rattle.osm_merge.proofs.SnapLaws.{snapshot_of_union, snapshot_of_snapshot}
 use Rattle.osm_merge.proofs.TakingLaws.{joined_versions}
 
 -- ---- orders
-then_less : (a b : Ordering) → a ≡ Less → ordering_then a b ≡ Less
-then_less a b e = ap (λ r. ordering_then r b) e
-
 object_less : (v w : VersionData) → object_cmp v w ≡ Less → version_cmp v w ≡ Less
-object_less v w e = then_less _ _ (then_less _ _ (then_less _ _ (then_less _ _ e)))
+object_less v w e = less_first _ _ (less_first _ _ (less_first _ _ (less_first _ _ e)))
 
 turned : {R : VersionData → VersionData → Ordering} → IsTotalOrder R → (v w : VersionData) → R v w ≡ Less → R w v ≡ Greater
 turned {R} o v w e = o.antisymm w v ∙ ap ordering_reverse e

@@ -14,10 +14,10 @@ use Rattle.std.specs.List.Sorted.{IsStrictlySortedBy}
 use Rattle.osm_model.specs.Data.{VersionData}
 use Rattle.osm_model.specs.Order.{version_cmp, version_cmp_total, object_cmp_total}
 use Rattle.osm_model.specs.Merged.{merge, merge_from}
+use Rattle.osm_model.proofs.SetLaws.{is_less}
 use Rattle.osm_merge.specs.declared.taking.OrderBy.{OrderBy}
 use Rattle.osm_merge.specs.declared.taking.OrderBy.TheVariants.{Versions, Objects}
 use Rattle.osm_merge.specs.Taking.{order_of, greater_of, IsCountBelow, rest_after_tie, greater_tied, merge_by, merge_by_from}
-use Rattle.osm_merge.proofs.OrderLaws.{is_less}
 
 -- Each of the two orders is total.
 pub order_total : (order : OrderBy) → IsTotalOrder (order_of order)

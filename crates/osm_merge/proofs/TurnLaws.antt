@@ -191,7 +191,7 @@ module _ {S O : Type 0} {task : MergeTask S O} {heads : List (Option VersionData
               ∙ before_is task.selection task.format v (union_list all) full
               ∙ ap (λ (vs : List VersionData). open_file_bytes task.format (put_of task.selection vs)) (sym met_is) in
               inr (record {
-                place = w;
+                index = w;
                 within = subst (λ n. w < n) s.merging.size less;
                 refusal = s.merging.refusals w ∙ end.1;
                 appended = subst (Appends (output_change task now2)) (sym bytes) sent;

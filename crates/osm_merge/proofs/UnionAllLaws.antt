@@ -9,8 +9,7 @@ use Rattle.osm_model.specs.Data.{VersionData}
 use Rattle.osm_model.specs.Order.{version_cmp_total}
 use Rattle.osm_model.specs.VersionSet.{VersionSet}
 use Rattle.osm_model.specs.Sets.{empty, contains}
-use Rattle.osm_model.proofs.SetLaws.{same_set, contains-union, contains-from_list}
-use Rattle.osm_model.proofs.VersionLaws.{version_cmp-IsAntisymmetric}
+use Rattle.osm_model.proofs.SetLaws.{contains-union, contains-from_list}
 use Rattle.osm_files.specs.SpellLaws.{AreVersions}
 use Rattle.osm_files.proofs.SpellLaws.{are_versions, unions_are_versions}
 use Rattle.osm_merge.specs.Members.{union_all}

@@ -88,10 +88,10 @@ written_before selection format (Some last) versions =
 -- the versions of the union.
 pub record IsSourceFaultBy (written : Option VersionData → List VersionData → List ℕ) (all : List VersionsToCome)
     (change : Change) (fault : Fault) : Type 0 where
-  pub place : ℕ
-  pub within : place < length all
-  pub refusal : (rest_at all place).refusal ≡ Some fault
-  pub appended : Appends change (written (last_version (rest_at all place).list) (to_list (union_given all)))
+  pub index : ℕ
+  pub within : index < length all
+  pub refusal : (rest_at all index).refusal ≡ Some fault
+  pub appended : Appends change (written (last_version (rest_at all index).list) (to_list (union_given all)))
 
 -- Why a merge that is to write a set was refused. Either memory ran out, the output failed or the file of the set has
 -- 2^62 bytes or more, and a front of that file was written. Or a source is refused, and the bytes `written` were.

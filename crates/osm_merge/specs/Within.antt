@@ -36,31 +36,31 @@ dropped_outside span c = let from = from_bound span c in up_to (is_under span.to
 
 -- the fault of a version outside the span, whose place isn't known
 abbrev pub stray_fault : ℕ → Fault
-stray_fault number = fault_at number 0 Unsorted
+stray_fault input = fault_at input 0 Unsorted
 
 -- a rest that is refused at the first version outside the span
 abbrev pub refused_outside : ℕ → Span → VersionsToCome → VersionsToCome
-refused_outside number span c = up_to (is_within span.from span.to) (end_refused (stray_fault number)) c.refusal c.list
+refused_outside input span c = up_to (is_within span.from span.to) (end_refused (stray_fault input)) c.refusal c.list
 
 -- the rest of a source within a span
 abbrev pub given_within : Outside → ℕ → Span → VersionsToCome → VersionsToCome
-given_within Dropped number span c = dropped_outside span c
-given_within Refused number span c = refused_outside number span c
+given_within Dropped input span c = dropped_outside span c
+given_within Refused input span c = refused_outside input span c
 
 -- the rest of a source within a span, by its state: nothing after the end, and Failed after a refusal
 abbrev pub still_in : State → Outside → ℕ → Span → VersionsToCome → VersionsToCome
-still_in Open outside number span c = given_within outside number span c
-still_in Ended outside number span c = end_whole
-still_in Failed outside number span c = end_refused (failed_fault number)
+still_in Open outside input span c = given_within outside input span c
+still_in Ended outside input span c = end_whole
+still_in Failed outside input span c = end_refused (failed_fault input)
 
 abbrev pub still_within : {S : Type 0} → Within S → VersionsToCome → VersionsToCome
-still_within w c = still_in w.state w.outside w.number w.span c
+still_within w c = still_in w.state w.outside w.input w.span c
 
 -- a source within a span, before the first call
 abbrev pub within_span : {S : Type 0} → Outside → Span → ℕ → S → Within S
-within_span outside span number source = record {
+within_span outside span input source = record {
   source = source;
-  number = number;
+  input = input;
   span = span;
   outside = outside;
   state = Open;
@@ -101,18 +101,18 @@ up_to_ascends p end r (v ∷ versions) none h =
       | false ↦ nothing_ascends end none
     ]
 
-pub ascends_in : (state : State) (outside : Outside) (number : ℕ) (span : Span) (c : VersionsToCome) → Ascends c →
-    Ascends (still_in state outside number span c)
-ascends_in Open Dropped number span c h =
+pub ascends_in : (state : State) (outside : Outside) (input : ℕ) (span : Span) (c : VersionsToCome) → Ascends c →
+    Ascends (still_in state outside input span c)
+ascends_in Open Dropped input span c h =
     up_to_ascends (is_under span.to) end_whole c.refusal (filter (reaches span.from) c.list) refl
     (IsStrictlySortedBy-filter version_cmp (reaches span.from) c.list h)
-ascends_in Open Refused number span c h =
-    up_to_ascends (is_within span.from span.to) (end_refused (stray_fault number)) c.refusal c.list refl h
-ascends_in Ended outside number span c h = nothing_ascends end_whole refl
-ascends_in Failed outside number span c h = nothing_ascends (end_refused (failed_fault number)) refl
+ascends_in Open Refused input span c h =
+    up_to_ascends (is_within span.from span.to) (end_refused (stray_fault input)) c.refusal c.list refl h
+ascends_in Ended outside input span c h = nothing_ascends end_whole refl
+ascends_in Failed outside input span c h = nothing_ascends (end_refused (failed_fault input)) refl
 
 pub within_ascends : {S : Type 0} (can : S → VersionsToCome → Type 0)
     → ((s : S) (c : VersionsToCome) → can s c → Ascends c) → (w : Within S) (still : VersionsToCome)
     → WithinCanGive can w still → Ascends still
 within_ascends can up w still h =
-    subst Ascends (sym h.2) (ascends_in w.state w.outside w.number w.span h.0 (up w.source h.0 h.1))
+    subst Ascends (sym h.2) (ascends_in w.state w.outside w.input w.span h.0 (up w.source h.0 h.1))

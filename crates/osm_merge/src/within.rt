@@ -38,20 +38,20 @@ pub(crate) enum State {
 #[derive(Drop)]
 pub struct Within<S: Source> {
     source: S,
-    number: usize,
+    input: usize,
     span: Span,
     outside: Outside,
     state: State,
 }
 
 impl<S: Source> Within<S> {
-    /// The versions of a source within a span. `number` is the number of the source in faults.
-    pub fn new(outside: Outside, span: Span, number: usize, source: S) -> Within<S>
-        ensures { result ≡ within_span outside span number source }
+    /// The versions of a source within a span. `input` is the number of the source in faults.
+    pub fn new(outside: Outside, span: Span, input: usize, source: S) -> Within<S>
+        ensures { result ≡ within_span outside span input source }
     {
         Within {
             source,
-            number,
+            input,
             span,
             outside,
             state: State::Open,
@@ -67,7 +67,7 @@ impl<S: Source> Within<S> {
             SourceStep (Some (dropped_outside self.old.span earlier)) result (Some (still_within self.new later))) }
         ensures fewer { IfOk result (λ given. IsSome given → S.left self.new.source < S.left self.old.source) }
         ensures failed { has_failed self.new.state ≡ is_err result }
-        ensures number { self.new.number ≡ self.old.number }
+        ensures input { self.new.input ≡ self.old.input }
     {
         match next_from(&mut self.source, self.span) {
             Ok(Some(version)) if self.span.is_under(&version) => Ok(Some(version)),
@@ -87,15 +87,15 @@ impl<S: Source> Within<S> {
         requires open { self.old.state ≡ state.Open }
         requires refused { self.old.outside ≡ outside.Refused }
         ensures step { Explained (S.can_give self.old.source) (S.can_give self.new.source) (λ earlier later.
-            SourceStep (Some (refused_outside self.old.number self.old.span earlier)) result
+            SourceStep (Some (refused_outside self.old.input self.old.span earlier)) result
             (Some (still_within self.new later))) }
         ensures fewer { IfOk result (λ given. IsSome given → S.left self.new.source < S.left self.old.source) }
         ensures failed { has_failed self.new.state ≡ is_err result }
-        ensures number { self.new.number ≡ self.old.number }
+        ensures input { self.new.input ≡ self.old.input }
     {
         match self.source.next() {
             Ok(Some(version)) if self.span.contains(&version) => Ok(Some(version)),
-            Ok(Some(_)) => Err(self.refuse(Fault::at(self.number, 0, Reason::Unsorted))),
+            Ok(Some(_)) => Err(self.refuse(Fault::at(self.input, 0, Reason::Unsorted))),
             Ok(None) => Ok(None),
             Err(fault) => Err(self.refuse(fault)),
         }
@@ -121,7 +121,7 @@ impl<S: Source> Source for Within<S> {
 
     ghost left = { λ w. S.left w.source };
 
-    ghost number = { λ w. w.number };
+    ghost input = { λ w. w.input };
 
     ghost has_failed = { λ w. has_failed w.state };
 
@@ -135,7 +135,7 @@ impl<S: Source> Source for Within<S> {
             (State::Open, Outside::Dropped) => self.next_dropping(),
             (State::Open, Outside::Refused) => self.next_refusing(),
             (State::Ended, _) => Ok(None),
-            (State::Failed, _) => Err(Fault::failed(self.number)),
+            (State::Failed, _) => Err(Fault::failed(self.input)),
         }
     }
 

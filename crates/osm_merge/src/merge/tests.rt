@@ -16,10 +16,10 @@ use std::process::Abort;
 struct Held<'a> {
     history: History,
     /// The number of versions that were given.
-    place: usize,
+    index: usize,
     /// The fault after the versions, if there is one.
     fault: Option<Fault>,
-    number: usize,
+    input: usize,
     has_failed: bool,
     given: &'a Cell<usize>,
 }
@@ -29,27 +29,27 @@ impl Source for Held<'_> {
     ghost use Rattle.osm_model.specs.Sets.{to_list};
     ghost use Rattle.osm_merge.specs.Rest.{rest_from, rest_unless, rest_ascends};
 
-    ghost can_give = { λ s still. still ≡ rest_unless s.has_failed s.number (rest_from s.history s.place s.fault) };
+    ghost can_give = { λ s still. still ≡ rest_unless s.has_failed s.input (rest_from s.history s.index s.fault) };
 
-    ghost one = { λ s. rest_unless s.has_failed s.number (rest_from s.history s.place s.fault) };
+    ghost one = { λ s. rest_unless s.has_failed s.input (rest_from s.history s.index s.fault) };
 
-    ghost left = { λ s. length (drop s.place (to_list s.history)) };
+    ghost left = { λ s. length (drop s.index (to_list s.history)) };
 
-    ghost number = { λ s. s.number };
+    ghost input = { λ s. s.input };
 
     ghost has_failed = { λ s. s.has_failed };
 
     ghost possible = { λ s. refl };
 
-    ghost ascends = { λ s still is. rest_ascends s.has_failed s.number s.history s.place s.fault still is };
+    ghost ascends = { λ s still is. rest_ascends s.has_failed s.input s.history s.index s.fault still is };
 
     fn next(&mut self) -> Result<Option<Version>, Fault> {
         if self.has_failed {
-            return Err(Fault::failed(self.number));
+            return Err(Fault::failed(self.input));
         }
-        if self.place < self.history.len() {
-            if let Ok(version) = self.history.get(self.place).copy() {
-                self.place += 1;
+        if self.index < self.history.len() {
+            if let Ok(version) = self.history.get(self.index).copy() {
+                self.index += 1;
                 self.given.set(self.given.get().saturating_add(1));
                 return Ok(Some(version));
             }
@@ -101,12 +101,12 @@ fn sources_of<'a>(
     given: &'a Cell<usize>,
 ) -> Vec<Held<'a>> {
     let mut inputs = Vec::new(alloc);
-    for (number, lines) in sources.iter().enumerate() {
+    for (input, lines) in sources.iter().enumerate() {
         let _ = inputs.push(Held {
             history: history(alloc, lines),
-            place: 0,
-            fault: fault.filter(|fault| fault.input == number),
-            number,
+            index: 0,
+            fault: fault.filter(|fault| fault.input == input),
+            input,
             has_failed: false,
             given,
         });
@@ -333,12 +333,12 @@ fn merge_thirds<W: Output>(
 ) -> Result<Counts, Fault> {
     let mut inputs = Vec::new(alloc);
     for first in 1..4u32 {
-        let number = inputs.len();
+        let input = inputs.len();
         let _ = inputs.push(Held {
             history: every_third(alloc, first),
-            place: 0,
+            index: 0,
             fault: None,
-            number,
+            input,
             has_failed: false,
             given,
         });

@@ -8,6 +8,6 @@ reads-preserved g c =
     let long = length-take-le c.reads.filled items (omega (arith, c.reads.invariant.0, c.reads.invariant.1)) in (
       omega (arith, c.in-Ok.ensures.most, c.reads.invariant.0),
       c.in-Ok.ensures.size ∙ c.reads.invariant.1,
-      came_on (g.F.ReadAt.bytes c.args.file.now) c.args.place c.reads.filled c.in-Ok.more (take c.reads.filled items)
+      came_on (g.F.ReadAt.bytes c.args.file.now) c.args.offset c.reads.filled c.in-Ok.more (take c.reads.filled items)
           (take (c.reads.filled + c.in-Ok.more) c.read_part.new.buffer.items) long c.reads.invariant.2 c.in-Ok.ensures.came,
     )

@@ -1,5 +1,5 @@
 use Rattle.std.proofs.Common.{◌∙◌, refl, arith, Ok, Err, Some, None}
-use Rattle.osm_files.proofs.FirstLaws.{first_is, first_number}
+use Rattle.osm_files.proofs.FirstLaws.{first_is, first_input}
 use Rattle.osm_files.proofs.lines.first_version.Goals as goal
 
 pub returns-in-Ok-Some-clause-first : goal.returns-in-Ok-Some-clause-first
@@ -23,9 +23,9 @@ returns-in-Err-clause-first g c =
     c.args.file.now c.args.end c.new.ensures.file c.new.ensures.start c.new.ensures.end
     (omega (arith, c.if-start-ge-LENGTH_LIMIT.false))
 
-pub returns-in-Err-clause-number : goal.returns-in-Err-clause-number
-returns-in-Err-clause-number g c =
-    first_number g.F.ReadAt.fails g.F.ReadAt.bytes c.args.input c.args.start c.new.result (Err c.in-Err.fault) _
+pub returns-in-Err-clause-input : goal.returns-in-Err-clause-input
+returns-in-Err-clause-input g c =
+    first_input g.F.ReadAt.fails g.F.ReadAt.bytes c.args.input c.args.start c.new.result (Err c.in-Err.fault) _
     c.next-first.new.self
     (c.set_first_chunk_size.ensures ∙ c.of_lines-lines.ensures) c.in-Err.ensures.step
     c.in-Err.fault refl

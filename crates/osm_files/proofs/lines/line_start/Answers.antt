@@ -1,6 +1,6 @@
-use Rattle.std.proofs.Common.{◌≡◌, ◌≤◌, ◌<◌, arith, inl, inr}
+use Rattle.std.proofs.Common.{◌≤◌, arith}
 use Rattle.std.proofs.lemmas.Result.{IfOk-weaker}
-use Rattle.osm_files.proofs.LineStarts.{start_near, start_far}
+use Rattle.osm_files.proofs.LineStarts.{start_far}
 use Rattle.osm_files.proofs.lines.line_start.Goals as goal
 
 pub returns-clause-start : goal.returns-clause-start

@@ -1,4 +1,4 @@
-use Rattle.std.proofs.Common.{◌≡◌, ◌+◌, ◌<◌, ◌∷◌, ◌++◌, [], List, take, drop, length, ap, subst, arith}
+use Rattle.std.proofs.Common.{◌≡◌, ◌+◌, ◌<◌, ◌∷◌, ◌++◌, [], List, take, drop, length, ap, sym, subst, arith}
 use Rattle.std.proofs.lemmas.List.{take_all}
 use Rattle.std.proofs.lemmas.Result.{err_from_is_err_and}
 use Rattle.osm_model.specs.Data.{VersionData}
@@ -69,7 +69,8 @@ puts-preserved g c =
     let before = c.args.out.now in
     let now = c.put.new.out in
     let within : i < length xs = omega (arith, c.puts-test.true, c.len-index-end.ensures) in (
-      subst (λ (x : List VersionData). HasPut f n x (change_of g.W.Output before now) c.put.new.self) (front_at xs i v within c.get.ensures)
+      subst (λ (x : List VersionData). HasPut f n x (change_of g.W.Output before now) c.put.new.self)
+          (sym (front_at xs i v within c.get.ensures))
           (put_ok f n g.W.Output (take i xs) before c.puts.out c.puts.sink c.puts.invariant.0 v
           c.put.new.self now c.in_ok-put.ensures.calls),
       λ h. c.puts.invariant.1 c.in_ok-put.ensures.good.0,

@@ -15,7 +15,7 @@ use Rattle.osm_files.proofs.group.Group.gather.Goals as goal
 
 pub units-init : goal.units-init
 units-init g c = record {
-  number = refl;
+  input = refl;
   keeps = (let from = still_with_ready c.args.units.now.input in let group = c.args.self.now.first ∷ c.args.self.now.others.items in
       unread g.R.Input.can_give c.args.units.now c.args.units.now
       (λ p q. Keeps (from (units_or_failed p) group []) (from (units_or_failed q) group [])) refl
@@ -78,7 +78,7 @@ returns-then-is_gt-clause-refuses g c = λ later k.
           (units_or_failed (with_rest c.units.units y.0)) (units_or_failed (with_rest c.next.new.self later)) c.args.self.now.first
           c.units.self.others.items x.2 u
           c.refuse.result (units_or_failed (with_rest c.refuse.new.self later)) c.next.new.self.input y.2 greater
-          (c.refuse.ensures.fault ∙ ap (λ n. fault_at n u.place Unsorted) (c.next.ensures.number ∙ c.units.invariant.number))
+          (c.refuse.ensures.fault ∙ ap (λ n. fault_at n u.offset Unsorted) (c.next.ensures.input ∙ c.units.invariant.input))
           (ap (λ (v : Position _). units_or_failed (with_rest v later)) failed),
     )
 
@@ -101,7 +101,7 @@ returns-in-Err-clause-refuses g c = λ later k.
 pub units-preserved : goal.units-preserved
 units-preserved g c =
     let input = c.args.units.now.input in
-    let less : 2 ^ 62 - c.next.new.self.place < 2 ^ 62 - c.units.units.place = (rw c.in-Some.is at c.in_ok-unit.ensures.fewer) refl in
+    let less : 2 ^ 62 - c.next.new.self.offset < 2 ^ 62 - c.units.units.offset = (rw c.in-Some.is at c.in_ok-unit.ensures.fewer) refl in
     let u = c.in-Some.unit in
     let first = c.args.self.now.first in
     let others = c.args.self.now.others.items in
@@ -111,7 +111,7 @@ units-preserved g c =
     ∙ ap is_gt (sym c.key_cmp-order.ensures) ∙ sym c.is_gt.ensures ∙ c.if-is_gt.false in
     let from = still_with_ready input in
     rw c.in_default-push.ensures.items (record {
-      number = c.next.ensures.number ∙ c.units.invariant.number;
+      input = c.next.ensures.input ∙ c.units.invariant.input;
       first = c.units.invariant.first;
       keeps = then_on g.R.Input.can_give c.args.units.now c.units.units c.next.new.self
           (λ p q. Keeps (from (units_or_failed p) (first ∷ others) []) (from (units_or_failed q) (first ∷ c.units.self.others.items) []))

@@ -5,7 +5,7 @@ use Rattle.osm_files.proofs.group.Group.gather.Given as goal
 
 abbrev pub invariant-units : goal.invariant-units
 invariant-units g l = record {
-  number : l.units.input ≡ l.fn.units.input;
+  input : l.units.input ≡ l.fn.units.input;
   keeps : Between g.R.Input.can_give l.fn.units l.units
       (λ p q. Keeps (still_with_ready l.fn.units.input (units_or_failed p) (l.fn.self.first ∷ l.fn.self.others.items) [])
       (still_with_ready l.fn.units.input (units_or_failed q) (l.fn.self.first ∷ l.self.others.items) []));

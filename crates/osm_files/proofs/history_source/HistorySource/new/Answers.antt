@@ -5,8 +5,8 @@ use Rattle.osm_model.specs.Data.{VersionData}
 use Rattle.osm_model.specs.Order.{version_cmp}
 use Rattle.osm_model.specs.Sets.{to_list, from_list}
 use Rattle.osm_model.proofs.SetLaws.{strict-listed}
-use Rattle.osm_files.proofs.SpellLaws.{listed_members}
 use Rattle.osm_files.proofs.history_source.HistorySource.new.Goals as goal
+use Rattle.osm_files.proofs.HoldLaws.{set_listed}
 
 pub invariant_of-result : goal.invariant_of-result
 invariant_of-result c =
@@ -16,4 +16,4 @@ invariant_of-result c =
 pub returns : goal.returns
 returns c =
     let items : into_iter_items c.into_iter.result ≡ to_list c.args.history = c.into_iter.ensures.rest ∙ c.into_versions-versions.ensures in
-    ap from_list items ∙ sym (listed_members c.args.history)
+    ap from_list items ∙ set_listed c.args.history

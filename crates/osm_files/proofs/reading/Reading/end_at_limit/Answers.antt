@@ -11,7 +11,7 @@ returns-in-Ok-eq0-clause-on g c =
     let can = g.R.Input.can_give in
     let is = c.self.view_is in
     let none : c.read.result ≡ Ok 0 = rw c.in-Ok-eq0.field-0-test at c.in-Ok-eq0.is in
-    fill_ended can c.args.self.now _ [] c.requires.unended refl (ap (λ v. v.input) is) (ap (λ v. v.place) is) (ap (λ v. v.stage) is)
+    fill_ended can c.args.self.now _ [] c.requires.unended refl (ap (λ v. v.input) is) (ap (λ v. v.offset) is) (ap (λ v. v.stage) is)
     (ap (λ v. v.failed) is) (ap (λ v. v.held) is ∙ sym (append-nil c.args.self.now.held)) refl
     (subst (λ (v : Position _). can v.rest (whole_input [])) is (c.read.ensures.end none (omega arith)))
 
@@ -30,7 +30,7 @@ returns-in-Ok-clause-stops g c =
       length-take c.in-Ok.field-0 c.read.new.buffer,
       c.read.auto.buffer,
     ) in
-    let full : p.place + length p.held + 1 ≡ 2 ^ 62 = omega (arith, c.requires.place, c.requires.limit) in
+    let full : p.offset + length p.held + 1 ≡ 2 ^ 62 = omega (arith, c.requires.offset, c.requires.limit) in
     fill_limit can p later before.0 front c.refuse.result
     (subst (λ (v : Position _). can v.rest before.0) is before.1) before.2 some c.requires.unended full
     (c.refuse.ensures.fault ∙ ap (λ (v : Position _). too_long_fault v.input) is)
@@ -42,4 +42,4 @@ returns-in-Err-clause-stops g c =
     let is = c.self.view_is in
     fill_stopped can p (g.R.Input.one p.rest) ReadFault c.refuse-in-Err.result (g.R.Input.possible p.rest) (inr refl)
     (λ e. subst (λ (v : Position _). can v.rest (broken_input [])) is c.in-Err.ensures.broken) c.requires.unended
-    (c.refuse-in-Err.ensures.fault ∙ (λ i. fault_at ((is i).input) (c.requires.place i) ReadFault))
+    (c.refuse-in-Err.ensures.fault ∙ (λ i. fault_at ((is i).input) (c.requires.offset i) ReadFault))

@@ -12,7 +12,7 @@ returns-in-Ok-eq0-clause-on g c =
     let is = c.self.view_is in
     let more = c.in-Ok-eq0.ensures.gave in
     let none : c.read_more.result ≡ Ok 0 = rw c.in-Ok-eq0.field-0-test at c.in-Ok-eq0.is in
-    fill_ended can c.args.self.now _ more.0 c.requires refl (ap (λ v. v.input) is) (ap (λ v. v.place) is) (ap (λ v. v.stage) is)
+    fill_ended can c.args.self.now _ more.0 c.requires refl (ap (λ v. v.input) is) (ap (λ v. v.offset) is) (ap (λ v. v.stage) is)
     (ap (λ v. v.failed) is) (more.2 ∙ ap (λ v. v.held ++ more.0) is) (more.3 ∙ c.in-Ok-eq0.field-0-test)
     (subst (λ (v : Position _). can v.rest (whole_input [])) is (c.read_more.ensures.end none))
 
@@ -25,5 +25,5 @@ returns-in-Err-clause-stops g c =
     (g.R.Input.possible c.args.self.now.rest) c.in-Err.ensures.reason
     (λ e. subst (λ (v : Position _). can v.rest (broken_input [])) is (c.read_more.ensures.broken (broken e)))
     c.requires
-    (c.refuse.ensures.fault ∙ ap (λ n. fault_at c.self.inside.input (c.self.inside.place + n) c.in-Err.reason) c.len.ensures
-    ∙ (λ i. fault_at ((is i).input) ((is i).place + length ((is i).held)) c.in-Err.reason))
+    (c.refuse.ensures.fault ∙ ap (λ n. fault_at c.self.inside.input (c.self.inside.offset + n) c.in-Err.reason) c.len.ensures
+    ∙ (λ i. fault_at ((is i).input) ((is i).offset + length ((is i).held)) c.in-Err.reason))

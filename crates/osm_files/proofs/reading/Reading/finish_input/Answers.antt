@@ -23,13 +23,13 @@ returns-in-Ok-clause-fewer g c = λ some.
     let further = last_further (with_rest p (g.R.Input.one p.rest)) c.requires.nothing c.requires.bound c.requires.ended c.in-Ok.version
     c.len-size.result c.pass.result c.in-Ok.ensures
     (c.len-size.ensures ∙ ap (λ v. length v.held) c.self.view_is) c.pass.ensures.gave some in
-    omega (arith, further, c.requires.bound, ap (λ v. v.place) c.pass.ensures.gone)
+    omega (arith, further, c.requires.bound, ap (λ v. v.offset) c.pass.ensures.gone)
 
 pub returns-in-Err-clause-step : goal.returns-in-Err-clause-step
 returns-in-Err-clause-step g c =
     let p = c.args.self.now in
     let one = g.R.Input.one p.rest in
-    let is = c.refuse-in-Err.ensures.fault ∙ ap (λ n. fault_at p.input n c.in-Err.reason) (ap (λ v. v.place) c.refuse.view_is) in
+    let is = c.refuse-in-Err.ensures.fault ∙ ap (λ n. fault_at p.input n c.in-Err.reason) (ap (λ v. v.offset) c.refuse.view_is) in
     refused_ever g.R.Input.can_give p c.refuse-in-Err.new.self c.refuse-in-Err.result one (g.R.Input.possible p.rest) c.requires.good
     (ap (λ v. v.failed) c.refuse-in-Err.ensures.failed)
     (last_refuses (with_rest p one) c.requires.nothing c.requires.bound c.requires.ended c.in-Err.reason c.refuse-in-Err.result

@@ -9,7 +9,7 @@ reads-init g c = record { input = refl; on = has_read g.R.Input.can_give c.args.
 
 pub reads-preserved : goal.reads-preserved
 reads-preserved g c = record {
-  input = c.fill.ensures.number ∙ c.reads.invariant.input;
+  input = c.fill.ensures.input ∙ c.reads.invariant.input;
   on = read_further g.R.Input.can_give c.args.self.now c.reads.self c.fill.new.self c.reads.invariant.on c.in_ok-fill.ensures.on;
 }
 

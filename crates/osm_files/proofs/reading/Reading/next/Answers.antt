@@ -46,7 +46,7 @@ returns-in-Some-clause-fewer g c = λ _.
     let found = some_found m q u c.in-Ok-Some.field-0 c.in-Ok-Some.field-0-is c.in-Ok-Some.ensures.found in
     omega (
       arith,
-      c.units.invariant.on.place,
+      c.units.invariant.on.offset,
       unit_further g.R.Input.can_give m q c.pass.new.self u c.read_held.ensures.bound found
           c.pass.ensures.gone,
       c.read_held.ensures.bound,
@@ -96,7 +96,7 @@ units-preserved g c =
       on =
           gone_read g.R.Input.can_give c.args.self.now q c.fill.new.self
           (gone_none g.R.Input.can_give c.args.self.now m q c.units.invariant.on found same.0 same.1 same.2 same.3) read.on
-          c.fill.ensures.number;
+          c.fill.ensures.input;
       within = omega (arith, size, ap length read.kept, length-take (length q.held) c.fill.new.self.held);
       none = rw size (none_still m q c.fill.new.self found read.on.stage read.kept);
     }
@@ -121,8 +121,8 @@ pub returns-in-Err-clause-step : goal.returns-in-Err-clause-step
 returns-in-Err-clause-step g c =
     let m = c.units.self in
     let q = c.read_held.new.self in
-    let place = ap (λ v. v.place) c.refuse.view_is ∙ c.read_held.ensures.place in
-    let is = c.refuse-in-Err.ensures.fault ∙ (λ i. fault_at (c.read_held.ensures.number i) (place i) c.in-Err.reason) in
+    let offset = ap (λ v. v.offset) c.refuse.view_is ∙ c.read_held.ensures.offset in
+    let is = c.refuse-in-Err.ensures.fault ∙ (λ i. fault_at (c.read_held.ensures.input i) (offset i) c.in-Err.reason) in
     steps_from g.R.Input.can_give c.args.self.now m c.refuse-in-Err.new.self (Err c.refuse-in-Err.result) c.units.invariant.on
     (sym (ap (λ v. v.failed) c.self.view_is) ∙ c.if-self.false)
     (unit_refused g.R.Input.can_give m q c.refuse-in-Err.new.self c.in-Err.reason c.refuse-in-Err.result (g.R.Input.one m.rest)

@@ -1,4 +1,4 @@
-use Rattle.std.proofs.Common.{◌≡◌, ℕ, ◌+◌, ◌-◌, List, [], ◌++◌, take, drop, length, length-append, suc, ap, sym, subst, arith, ◌∙◌}
+use Rattle.std.proofs.Common.{◌≡◌, ℕ, ◌+◌, List, ◌++◌, take, drop, length, length-append, suc, ap, subst, arith, ◌∙◌}
 use Rattle.osm_files.specs.Recorded.{ReadResult, HasFailure, all_bytes}
 use Rattle.osm_files.proofs.RecordedLaws.{IsAtFront, found_in, found_later, failed_at, one_more, none_more}
 use Rattle.osm_files.proofs.recorded.Recorded.result_at.Goals as goal

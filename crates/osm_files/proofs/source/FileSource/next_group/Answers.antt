@@ -74,8 +74,8 @@ returns-then-is_gt-clause-step g c =
     let none = ap (λ v. v.ready) c.self.view_is ∙ c.begin.ensures.taken.1 in
     let greater : is_gt (key_cmp first second.version) ≡ true = ap is_gt (sym c.key_cmp-order.ensures) ∙ sym c.is_gt.ensures
     ∙ c.if-is_gt.true in
-    let number = c.next.ensures.number ∙ ap (λ (v : FileSourceData _). v.units.input) c.self.view_is ∙ c.begin.ensures.number in
-    let is = c.refuse.ensures.fault ∙ ap (λ n. fault_at n second.place Unsorted) number in
+    let input = c.next.ensures.input ∙ ap (λ (v : FileSourceData _). v.units.input) c.self.view_is ∙ c.begin.ensures.input in
+    let is = c.refuse.ensures.fault ∙ ap (λ n. fault_at n second.offset Unsorted) input in
     let begins = rw c.in-Some.is at c.in_ok-first.ensures.begins in
     let step = subst (λ (x : FileSourceData _). StepsOn g.R.Input.can_give x.units (Ok (Some second)) c.next.new.self) c.self.view_is
     (rw c.in-Some-2.is at c.in_ok-second.ensures.step) in
@@ -95,9 +95,9 @@ returns-clause-step g c =
     ∙ c.if-is_lt.false in
     let not_below : is_gt (key_cmp first second.version) ≡ false = ap is_gt (sym c.key_cmp-order.ensures) ∙ sym c.is_gt.ensures
     ∙ c.if-is_gt.false in
-    let number = c.next.ensures.number ∙ ap (λ (v : FileSourceData _). v.units.input) c.self.view_is ∙ c.begin.ensures.number in
+    let input = c.next.ensures.input ∙ ap (λ (v : FileSourceData _). v.units.input) c.self.view_is ∙ c.begin.ensures.input in
     let begins = rw c.in-Some.is at c.in_ok-first.ensures.begins in
     let step = subst (λ (x : FileSourceData _). StepsOn g.R.Input.can_give x.units (Ok (Some second)) c.next.new.self) c.self.view_is
     (rw c.in-Some-2.is at c.in_ok-second.ensures.step) in
     second_joins g.R.Input.can_give c.args.self.now c.requires.nothing c.begin.new.self.units first begins second c.next.new.self step
-    c.next_of_many.result c.next_of_many.new.self number not_above not_below c.next_of_many.ensures.step
+    c.next_of_many.result c.next_of_many.new.self input not_above not_below c.next_of_many.ensures.step

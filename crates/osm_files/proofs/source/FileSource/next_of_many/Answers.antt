@@ -70,7 +70,7 @@ invariant_of-self-in-Ok-into_ascending g c =
     ∙ sym c.in-Ok-into_ascending.ensures.given ∙ c.next.ensures.items in
     gathered_open g.R.Input.can_give c.self.inside.units c.in-Ok.group c.gather.new.units c.gather.new.self c.in_ok-self-inside.field-0
     c.in_ok-self-inside.ensures.gathers c.next.result
-    (into_iter_items c.next.new.self) all c.gather.ensures.number c.in_ok-self-inside.ensures.failed
+    (into_iter_items c.next.new.self) all c.gather.ensures.input c.in_ok-self-inside.ensures.failed
 
 pub returns-in-Ok-into_ascending-clause-step : goal.returns-in-Ok-into_ascending-clause-step
 returns-in-Ok-into_ascending-clause-step g c =
@@ -101,5 +101,5 @@ returns-in-Ok-into_ascending-clause-fewer g c = λ some.
       c.in-Ok-into_ascending.ensures.fewer,
       size,
       one_in c.next.result some,
-      ap (λ (v : FileSourceData _). v.units.place) c.self.view_is,
+      ap (λ (v : FileSourceData _). v.units.offset) c.self.view_is,
     )

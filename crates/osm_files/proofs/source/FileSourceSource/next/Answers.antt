@@ -44,6 +44,6 @@ returns-in-None-clause-step g c =
     let here = source_data s.units (option_to_list s.pending) (into_iter_items s.ready) in
     let next = c.next_group.new.self in
     subst (λ (x : FileSourceData _). SourceSteps (FileCanGive g.R.Input.can_give) x c.next_group.result next) c.self.view_is
-    (file_step g.R.Input.can_give here next c.next_group.result c.self.invariant.0 c.next_group.ensures.number
+    (file_step g.R.Input.can_give here next c.next_group.result c.self.invariant.0 c.next_group.ensures.input
     (subst (λ (xs : List VersionData). FileSteps g.R.Input.can_give
     (source_data s.units (option_to_list s.pending) xs) c.next_group.result next) (sym c.in-None.ensures.items) c.next_group.ensures.step))

@@ -1,6 +1,7 @@
 -- The offsets of units: each unit begins after the one before it, and a refusal comes after them all.
 use Rattle.std.proofs.Common.{◌≡◌, ℕ, zero, suc, ◌+◌, ◌-◌, ◌≤◌, true, false, cond, List, [], ◌∷◌, length, take, drop, refl, sym, subst}
 use Rattle.std.proofs.Common.{arith, Option, Some, None, IfSome, Ok, Err, length-drop, length-take, nat_lt}
+use Rattle.std.proofs.lemmas.Option.{IfSome_then}
 use Rattle.osm_files.specs.declared.reason.Reason.TheVariants.{ReadFault}
 use Rattle.osm_files.specs.Input.{InputRest}
 use Rattle.osm_files.specs.Position.{closing_verdict, state_or_start, units_from, window}
@@ -8,7 +9,6 @@ use Rattle.osm_files.specs.Stream.{Placed, SourceRest, Verdict, verdict_at}
 use Rattle.osm_files.specs.Units.{FileUnit, UnitResult, FileStateData, final_units, found_then, last_at, unit_at, unit_then, units}
 use Rattle.osm_files.specs.Units.{units_within}
 use Rattle.osm_files.specs.Verdict.{length_limit, too_long_verdict}
-use Rattle.osm_files.proofs.FillLaws.{weaker}
 use Rattle.osm_files.proofs.PositionLaws.{from_is}
 use Rattle.osm_files.proofs.StepLaws.{unit_sized}
 
@@ -16,7 +16,7 @@ use Rattle.osm_files.proofs.StepLaws.{unit_sized}
 abbrev pub Follow : ℕ → List Placed → Option Verdict → Type 0
 Follow from [] None = Unit {0}
 Follow from [] (Some v) = from ≤ v.place
-Follow from (u ∷ us) refusal = (from ≤ u.place) × Follow (u.place + 1) us refusal
+Follow from (u ∷ us) refusal = (from ≤ u.offset) × Follow (u.offset + 1) us refusal
 
 abbrev pub Follows : ℕ → SourceRest Placed Verdict → Type 0
 Follows from still = Follow from still.list still.refusal
@@ -31,50 +31,50 @@ abbrev ClosesFrom : ℕ → Option Verdict → Type 0
 ClosesFrom from close = IfSome close (λ v. from ≤ v.place)
 
 closes_earlier : (from to : ℕ) (close : Option Verdict) → from ≤ to → ClosesFrom to close → ClosesFrom from close
-closes_earlier from to close le h = weaker close _ _ (λ v k. omega (arith, le, k)) h
+closes_earlier from to close le h = IfSome_then close h (λ v k. omega (arith, le, k))
 
-closed_follows : (close : Option Verdict) (place : ℕ) (last : UnitResult) → ClosesFrom place close →
-    Follows place (final_units close place last)
-closed_follows None place (Err reason) h = omega arith
-closed_follows None place (Ok (None, next)) h = tt
-closed_follows None place (Ok (Some v, next)) h = (omega arith, tt)
-closed_follows (Some verdict) place last h = h
+closed_follows : (close : Option Verdict) (offset : ℕ) (last : UnitResult) → ClosesFrom offset close →
+    Follows offset (final_units close offset last)
+closed_follows None offset (Err reason) h = omega arith
+closed_follows None offset (Ok (None, next)) h = tt
+closed_follows None offset (Ok (Some v, next)) h = (omega arith, tt)
+closed_follows (Some verdict) offset last h = h
 
-found_follows : (place size : ℕ) (found : UnitResult) (more : FileStateData → SourceRest Placed Verdict) → 1 ≤ size
-    → ((next : FileStateData) → Follows (place + size) (more next)) → Follows place (found_then place found more)
-found_follows place size (Err reason) more some on = omega arith
-found_follows place size (Ok (None, next)) more some on =
-    follow_earlier place (place + size) (more next).list (more next).refusal (omega arith) (on next)
-found_follows place size (Ok (Some v, next)) more some on =
-    (omega arith, follow_earlier (place + 1) (place + size) (more next).list (more next).refusal (omega (arith, some)) (on next))
+found_follows : (offset size : ℕ) (found : UnitResult) (more : FileStateData → SourceRest Placed Verdict) → 1 ≤ size
+    → ((next : FileStateData) → Follows (offset + size) (more next)) → Follows offset (found_then offset found more)
+found_follows offset size (Err reason) more some on = omega arith
+found_follows offset size (Ok (None, next)) more some on =
+    follow_earlier offset (offset + size) (more next).list (more next).refusal (omega arith) (on next)
+found_follows offset size (Ok (Some v, next)) more some on =
+    (omega arith, follow_earlier (offset + 1) (offset + size) (more next).list (more next).refusal (omega (arith, some)) (on next))
 
 module _ (close : Option Verdict) where
   abbrev WithinFollow : ℕ → Type 0
   WithinFollow n =
-      (stage : FileStateData) (place : ℕ) (bytes : List ℕ) → ClosesFrom (place + length bytes) close
-      → Follows place (units_within n close stage place bytes)
+      (stage : FileStateData) (offset : ℕ) (bytes : List ℕ) → ClosesFrom (offset + length bytes) close
+      → Follows offset (units_within n close stage offset bytes)
 
-  unit_follows : (n : ℕ) → WithinFollow n → (stage : FileStateData) (place : ℕ) (bytes : List ℕ) → ClosesFrom (place + length bytes) close
+  unit_follows : (n : ℕ) → WithinFollow n → (stage : FileStateData) (offset : ℕ) (bytes : List ℕ) → ClosesFrom (offset + length bytes) close
       → (found : Option FileUnit) → unit_at stage bytes ≡ found
-      → Follows place (unit_then close stage place bytes (units_within n close) found)
-  unit_follows n on stage place bytes h None e =
-      closed_follows close place (last_at stage bytes) (closes_earlier place (place + length bytes) close (omega arith) h)
-  unit_follows n on stage place bytes h (Some u) e =
+      → Follows offset (unit_then close stage offset bytes (units_within n close) found)
+  unit_follows n on stage offset bytes h None e =
+      closed_follows close offset (last_at stage bytes) (closes_earlier offset (offset + length bytes) close (omega arith) h)
+  unit_follows n on stage offset bytes h (Some u) e =
       let sized = unit_sized stage bytes u e in
       let rest : List ℕ = drop u.size bytes in
-      let within : (place + u.size) + length rest ≤ place + length bytes = omega (arith, length-drop u.size bytes, sized.within) in
-      found_follows place u.size u.found (λ next. units_within n close next (place + u.size) rest) sized.some
-      (λ next. on next (place + u.size) rest (closes_earlier _ _ close within h))
+      let within : (offset + u.size) + length rest ≤ offset + length bytes = omega (arith, length-drop u.size bytes, sized.within) in
+      found_follows offset u.size u.found (λ next. units_within n close next (offset + u.size) rest) sized.some
+      (λ next. on next (offset + u.size) rest (closes_earlier _ _ close within h))
 
   within_follow : (n : ℕ) → WithinFollow n
-  within_follow zero stage place bytes h =
-      closed_follows close place (last_at stage bytes) (closes_earlier place (place + length bytes) close (omega arith) h)
-  within_follow (suc n) stage place bytes h = unit_follows n (within_follow n) stage place bytes h (unit_at stage bytes) refl
+  within_follow zero stage offset bytes h =
+      closed_follows close offset (last_at stage bytes) (closes_earlier offset (offset + length bytes) close (omega arith) h)
+  within_follow (suc n) stage offset bytes h = unit_follows n (within_follow n) stage offset bytes h (unit_at stage bytes) refl
 
-  units_follow : (stage : FileStateData) (place : ℕ) (bytes : List ℕ) → ClosesFrom (place + length bytes) close
-      → Follows place (units close stage place bytes)
+  units_follow : (stage : FileStateData) (offset : ℕ) (bytes : List ℕ) → ClosesFrom (offset + length bytes) close
+      → Follows offset (units close stage offset bytes)
   unfolding units
-  units_follow stage place bytes h = within_follow (length bytes) stage place bytes h
+  units_follow stage offset bytes h = within_follow (length bytes) stage offset bytes h
 
 -- an error comes after the last byte, and the limit after all bytes that count
 window_closes : (c : InputRest) → ClosesFrom (0 + length (window 0 c)) (closing_verdict 0 c)
