@@ -39,8 +39,8 @@ const NO_ARGS: [&str; 4] = ["merge", "--output", STANDARD, STANDARD];
 
 /// Runs one command and returns the exit status.
 ///
-/// `rt` is the runtime; the files are in its folder. `arguments` are the arguments after the program's name. `input` is
-/// standard input, `out` is standard output, and `err` is standard error. With no arguments, `input` is merged to
+/// `rt` is the runtime; the files are in its folder. `arguments` are the arguments after the program's name. `stdin` is
+/// standard input, `out` is standard output, and `err` is standard error. With no arguments, `stdin` is merged to
 /// `out`. Help, the version, the lines of a check and the replies to a plan's events go to `out`, too. The reports
 /// during a job and the line of a refusal go to `err`.
 ///
@@ -49,7 +49,7 @@ const NO_ARGS: [&str; 4] = ["merge", "--output", STANDARD, STANDARD];
 pub fn run_words<S, I, O, E>(
     rt: &impl Host,
     arguments: &[S],
-    input: I,
+    stdin: I,
     mut out: O,
     mut err: E,
 ) -> u8
@@ -66,7 +66,7 @@ where
     };
     match parsed {
         Ok(matches) => match matches.subcommand() {
-            Some((name, matches)) => run_command(rt, name, matches, input, &mut out, &mut err),
+            Some((name, matches)) => run_command(rt, name, matches, stdin, &mut out, &mut err),
             None => {
                 let printed = print_explanation(rt.alloc(), matches.get_str("explain"), &mut out);
                 status_of(rt, printed, &mut err)
@@ -103,7 +103,7 @@ fn run_command<I: Read + Drop, O: Write + IsTerminal, E: Write + IsTerminal>(
     rt: &impl Host,
     name: &str,
     matches: &ArgMatches<'_>,
-    input: I,
+    stdin: I,
     out: &mut O,
     err: &mut E,
 ) -> u8 {
@@ -112,7 +112,7 @@ fn run_command<I: Read + Drop, O: Write + IsTerminal, E: Write + IsTerminal>(
         return run_plan(rt, matches, out, err);
     }
     match Request::of_matches(rt.alloc(), name, matches) {
-        Ok(request) => run_request(rt, request, input, out, err, hints),
+        Ok(request) => run_request(rt, request, stdin, out, err, hints),
         Err(refusal) => hint::report(rt, &refusal, err, hints),
     }
 }
@@ -121,13 +121,13 @@ fn run_command<I: Read + Drop, O: Write + IsTerminal, E: Write + IsTerminal>(
 fn run_request<I: Read + Drop, O: Write + IsTerminal, E: Write + IsTerminal>(
     rt: &impl Host,
     request: Request<'_>,
-    input: I,
+    stdin: I,
     out: &mut O,
     err: &mut E,
     hints: bool,
 ) -> u8 {
-    let mut input = Some(input);
-    let (text, list) = match read_list(rt, &request, &mut input) {
+    let mut stdin = Some(stdin);
+    let (text, list) = match read_list(rt, &request, &mut stdin) {
         Ok(list) => list,
         Err(refusal) => return hint::report(rt, &refusal, err, hints),
     };
@@ -136,9 +136,9 @@ fn run_request<I: Read + Drop, O: Write + IsTerminal, E: Write + IsTerminal>(
         Err(refusal) => return hint::report(rt, &refusal, err, hints),
     };
     let Some(run) = &request.run else {
-        return check_files(rt, &request, input, out, err, hints);
+        return check_files(rt, &request, stdin, out, err, hints);
     };
-    match run_files(rt, run, &request.files, input, out, err) {
+    match run_files(rt, run, &request.files, stdin, out, err) {
         Ok(has_more_o5) => {
             let more = format!(in rt.alloc(); "{}", hint::MORE_O5).ok();
             hint::advise(more.filter(|_| has_more_o5), err, hints);

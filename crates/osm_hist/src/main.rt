@@ -85,8 +85,8 @@ fn refuse_args(rt: &HostRuntime, error: &io::Error) -> Refusal<'static> {
 /// buffer, the result is a text that says so.
 fn faulty_argument(rt: &HostRuntime) -> io::Result<String> {
     let mut buffer = [0u8; ARGUMENT];
-    for number in 1..usize::MAX {
-        match rt.arg(number, &mut buffer) {
+    for index in 1..usize::MAX {
+        match rt.arg(index, &mut buffer) {
             Ok(count) if str::from_utf8(&buffer[..count]).is_err() => {
                 return Ok(format!(in rt.alloc(); "{}", EscapedBytes(&buffer[..count]))?);
             }

@@ -103,11 +103,11 @@ pub fn jobs_of_known<R: Input, W: Output>(_inputs: &[R], _out: &W)
 /// A merge that succeeds, or a job, wrote the file of a set, whatever its inputs report.
 pub fn jobs_write_a_set<W: Output>(_out: &W)
     ensures merges { MergesWriteASet W.Output }
-    ensures runs { JobsWriteASet W.Output }
+    ensures jobs { JobsWriteASet W.Output }
 {}
 
 /// A merge that is refused, or a job, wrote a front of the file that it would have written.
 pub fn refused_jobs_have_begun<W: Output>(_out: &W)
     ensures merges { RefusedMergesHaveBegun W.Output }
-    ensures runs { RefusedJobsHaveBegun W.Output }
+    ensures jobs { RefusedJobsHaveBegun W.Output }
 {}

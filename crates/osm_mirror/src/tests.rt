@@ -136,7 +136,7 @@ fn run(
     }
 }
 
-/// The bytes that a run wrote, and then the word `refused` if it was refused.
+/// The bytes that a job wrote, and then the word `refused` if it was refused.
 fn bytes_of(out: VecOut, outcome: Result<Counts, Fault>) -> Vec<u8> {
     let mut bytes = out.into_vec();
     if outcome.is_err() {
@@ -152,7 +152,7 @@ fn made(alloc: Global, command: Command, files: &[&[u8]], format: Format) -> Vec
     bytes_of(out, outcome)
 }
 
-/// The file that the run with the selection makes of `files`. `mix` chooses those that are read as sorted ones.
+/// The file that the job with the selection makes of `files`. `mix` chooses those that are read as sorted ones.
 fn chosen(
     alloc: Global,
     selection: Selection,
@@ -170,7 +170,7 @@ fn in_format(alloc: Global, file: &[u8], format: Format) -> Vec<u8> {
     made(alloc, Command::Sort, &[file], format)
 }
 
-/// Whether the command, and all runs with its selection, make `file` of `files`.
+/// Whether the command, and all jobs with its selection, make `file` of `files`.
 fn is_made_of(
     alloc: Global,
     command: Command,
@@ -458,7 +458,7 @@ fn versions_are_counted(rt: HostRuntime) {
     }
 }
 
-/// Appends the fault of a run, or that there is none.
+/// Appends the fault of a job, or that there is none.
 fn push_fault(text: &mut String, outcome: Result<Counts, Fault>) {
     let _ = match outcome {
         Ok(_) => writeln!(text, "done"),
@@ -492,7 +492,7 @@ fn checked_text(alloc: Global, file: &[u8]) -> String {
     text
 }
 
-/// The results of the runs over a file that must be sorted, and the number of bytes that they write.
+/// The results of the jobs over a file that must be sorted, and the number of bytes that they write.
 fn sorted_text(alloc: Global, file: &[u8]) -> String {
     let mut text = String::new(alloc);
     let mut out = VecOut::new(alloc);
@@ -542,8 +542,8 @@ fn check_and_cut(rt: HostRuntime) {
     );
 }
 
-/// The results of two runs over three files of which the second is cut, and the number of bytes that the runs write.
-/// The second run streams the first and the third file.
+/// The results of two jobs over three files of which the second is cut, and the number of bytes that the jobs write.
+/// The second job streams the first and the third file.
 fn cut_text(alloc: Global, format: Format) -> String {
     let mut text = String::new(alloc);
     let mut out = VecOut::new(alloc);

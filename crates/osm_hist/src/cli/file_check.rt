@@ -38,7 +38,7 @@ impl Watch for &Reads {
 pub(super) fn check_files<I: Read + Drop, O: Write + IsTerminal, E: Write + IsTerminal>(
     rt: &impl Host,
     request: &Request<'_>,
-    mut input: Option<I>,
+    mut stdin: Option<I>,
     out: &mut O,
     err: &mut E,
     hints: bool,
@@ -49,7 +49,7 @@ pub(super) fn check_files<I: Read + Drop, O: Write + IsTerminal, E: Write + IsTe
             bytes: Cell::new(0),
             failed: Cell::new(None),
         };
-        let outcome = check_file(rt, request, *arg, &mut input, &reads);
+        let outcome = check_file(rt, request, *arg, &mut stdin, &reads);
         if let Err(refusal) = &outcome {
             status = hint::report(rt, refusal, err, hints);
         }
@@ -115,11 +115,11 @@ fn check_file<'a, I: Read + Drop>(
     rt: &impl Host,
     request: &Request<'a>,
     arg: &'a str,
-    input: &mut Option<I>,
+    stdin: &mut Option<I>,
     reads: &Reads,
 ) -> Result<CheckedFile<'a>, Refusal<'a>> {
     let mut inputs = Vec::new(rt.alloc());
-    inputs.push(OpenInput::open(rt, &request.files, 0, arg, input, reads)?)?;
+    inputs.push(OpenInput::open(rt, &request.files, 0, arg, stdin, reads)?)?;
     check_first(rt.alloc(), inputs.as_slice(), request.sorted, reads)
 }
 

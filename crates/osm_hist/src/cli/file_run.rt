@@ -1,4 +1,4 @@
-//! Runs that make one file from files.
+//! Jobs that make one file from files.
 use super::input::{InputBytes, OpenInput, RegularInput, StreamInput, Watch};
 use super::progress::Meter;
 use super::request::{FileRun, InputFiles};
@@ -22,7 +22,7 @@ pub(super) fn run_files<'a, I: Read + Drop, O: Write, E: Write + IsTerminal>(
     rt: &impl Host,
     asked: &FileRun<'a>,
     files: &InputFiles<'a>,
-    mut input: Option<I>,
+    mut stdin: Option<I>,
     out: &mut O,
     err: &mut E,
 ) -> Result<bool, Refusal<'a>> {
@@ -34,7 +34,7 @@ pub(super) fn run_files<'a, I: Read + Drop, O: Write, E: Write + IsTerminal>(
         meter: Meter::new(rt, err, asked.progress),
         has_more_o5: Cell::new(false),
     };
-    let made = run.make(&mut input, &mut *out);
+    let made = run.make(&mut stdin, &mut *out);
     made.map(|()| run.has_more_o5.get())
 }
 
@@ -57,7 +57,7 @@ impl<'a, 'q, 'f, 'r, 'e, R: Host, E: Write + IsTerminal> Runner<'a, 'q, 'f, 'r, 
     /// Opens the files, each once.
     fn open<'m, I: Read + Drop>(
         &'m self,
-        input: &mut Option<I>,
+        stdin: &mut Option<I>,
     ) -> Result<Inputs<'a, 'm, 'e, I, R, E>, Refusal<'a>> {
         let names = self.files.names.as_slice();
         let is_shard = self.asked.shard.is_some();
@@ -66,8 +66,8 @@ impl<'a, 'q, 'f, 'r, 'e, R: Host, E: Write + IsTerminal> Runner<'a, 'q, 'f, 'r, 
             refuse_irregular(self.rt, names)?;
         }
         let mut inputs = Vec::new(self.rt.alloc());
-        for (number, name) in names.iter().enumerate() {
-            let opened = OpenInput::open(self.rt, self.files, number, *name, input, &self.meter)?;
+        for (input, name) in names.iter().enumerate() {
+            let opened = OpenInput::open(self.rt, self.files, input, *name, stdin, &self.meter)?;
             inputs.push(opened)?;
         }
         if is_shard {
@@ -79,10 +79,10 @@ impl<'a, 'q, 'f, 'r, 'e, R: Host, E: Write + IsTerminal> Runner<'a, 'q, 'f, 'r, 
     /// Opens the files and the output, writes the output, and completes it, or discards it after a refusal.
     fn make<I: Read + Drop, O: Write + Drop>(
         &self,
-        input: &mut Option<I>,
+        stdin: &mut Option<I>,
         out: O,
     ) -> Result<(), Refusal<'a>> {
-        let inputs = self.open(input)?;
+        let inputs = self.open(stdin)?;
         let inputs = inputs.as_slice();
         let mut ids = vec![in self.rt.alloc(); self.files.list]?;
         for input in inputs {

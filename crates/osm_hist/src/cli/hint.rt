@@ -195,8 +195,8 @@ fn of_content(rt: &impl Host, name: &str, fault: &Fault) -> Option<String> {
 }
 
 /// The number of the faulty line of a file, which is read once more, and the object that the line begins with.
-fn of_line(rt: &impl Host, name: &str, place: u64) -> Option<String> {
-    let line = FaultyLine::read(&mut File::open(rt, name).ok()?, place)?;
+fn of_line(rt: &impl Host, name: &str, offset: u64) -> Option<String> {
+    let line = FaultyLine::read(&mut File::open(rt, name).ok()?, offset)?;
     format!(in rt.alloc();
         "line {} of {}, which begins with {}",
         line.number,

@@ -32,7 +32,7 @@ pub(super) struct Metered<F, M> {
     /// The file or the stream.
     inner: F,
     /// The number of the input.
-    number: usize,
+    input: usize,
     /// What watches its reads.
     watch: M,
 }
@@ -44,7 +44,7 @@ impl<F, M: Watch> Metered<F, M> {
     {
         match &outcome {
             Ok(count) => self.watch.count(*count),
-            Err(_) => self.watch.failed().set(Some(self.number)),
+            Err(_) => self.watch.failed().set(Some(self.input)),
         }
         outcome
     }
@@ -91,23 +91,23 @@ pub(super) enum InputBytes<I: Read + Drop, M: Watch> {
 }
 
 impl<I: Read + Drop, M: Watch> InputBytes<I, M> {
-    /// The bytes of the file `number`, which has this stamp if it is a regular one. An empty file is a stream, unless
-    /// `files` keeps it.
+    /// The bytes of a file as the input number `input`. The file has this stamp if it is a regular one. An empty file
+    /// is a stream, unless `files` keeps it.
     fn of_file(
         file: File,
         stamp: Option<Stamp>,
         files: &InputFiles<'_>,
-        number: usize,
+        input: usize,
         watch: M,
     ) -> Result<InputBytes<I, M>, Fault> {
         let end = files.end.of_file(stamp.is_some());
         let Some(stamp) = stamp.filter(|stamp| stamp.size > 0 || files.keeps_empty) else {
-            return Ok(InputBytes::of_stream(Left(file), end, number, watch));
+            return Ok(InputBytes::of_stream(Left(file), end, input, watch));
         };
         let inner = FromFile::new(file, stamp.size);
         let metered = Metered {
             inner,
-            number,
+            input,
             watch,
         };
         if end == FileEnd::Any {
@@ -117,22 +117,17 @@ impl<I: Read + Drop, M: Watch> InputBytes<I, M> {
         Ok(InputBytes::Regular(file, stamp))
     }
 
-    /// The bytes of the stream `number`, which has to end as `end` requires.
-    fn of_stream(
-        inner: Either<File, I>,
-        end: FileEnd,
-        number: usize,
-        watch: M,
-    ) -> InputBytes<I, M> {
-        let input = FromRead::new(Metered {
+    /// The bytes of a stream as the input number `input`. The stream has to end as `end` requires.
+    fn of_stream(inner: Either<File, I>, end: FileEnd, input: usize, watch: M) -> InputBytes<I, M> {
+        let stream = FromRead::new(Metered {
             inner,
-            number,
+            input,
             watch,
         });
         InputBytes::Stream(Cell::new(Some(match end {
-            FileEnd::Any => WholeLines::any_end(EndMarked::any_end(input)),
-            FileEnd::LineFeed => WholeLines::new(EndMarked::any_end(input)),
-            FileEnd::Mark => WholeLines::any_end(EndMarked::new(input)),
+            FileEnd::Any => WholeLines::any_end(EndMarked::any_end(stream)),
+            FileEnd::LineFeed => WholeLines::new(EndMarked::any_end(stream)),
+            FileEnd::Mark => WholeLines::any_end(EndMarked::new(stream)),
         })))
     }
 }
@@ -147,20 +142,20 @@ pub(super) struct OpenInput<'a, I: Read + Drop, M: Watch> {
     /// Its bytes.
     pub(super) bytes: InputBytes<I, M>,
     /// Its number.
-    number: usize,
+    input: usize,
     /// What watches its reads.
     watch: M,
 }
 
 impl<'a, I: Read + Drop, M: Watch> OpenInput<'a, I, M> {
-    /// Opens the file that `arg` names, or standard input, which is taken from `input`, as the input `number`. `files`
-    /// has the end that it must have.
+    /// Opens the file that `arg` names, or standard input, which is taken from `stdin`, as the input number `input`.
+    /// `files` has the end that it must have.
     pub(super) fn open(
         rt: &impl Host,
         files: &InputFiles<'a>,
-        number: usize,
+        input: usize,
         arg: &'a str,
-        input: &mut Option<I>,
+        stdin: &mut Option<I>,
         watch: M,
     ) -> Result<OpenInput<'a, I, M>, Refusal<'a>> {
         let (name, id, bytes) = if arg != STANDARD {
@@ -169,12 +164,12 @@ impl<'a, I: Read + Drop, M: Watch> OpenInput<'a, I, M> {
             let metadata = file.metadata().ok();
             let id = metadata.as_ref().map(|metadata| FileId::of(metadata));
             let stamp = metadata.as_ref().and_then(|metadata| Stamp::of(metadata));
-            let bytes = InputBytes::of_file(file, stamp, files, number, watch).map_err(
+            let bytes = InputBytes::of_file(file, stamp, files, input, watch).map_err(
                 |fault| Refusal::of_fault(rt.alloc(), fault, arg, None),
             )?;
             (arg, id, bytes)
-        } else if let Some(stream) = input.take() {
-            let bytes = InputBytes::of_stream(Right(stream), files.end, number, watch);
+        } else if let Some(stream) = stdin.take() {
+            let bytes = InputBytes::of_stream(Right(stream), files.end, input, watch);
             (STANDARD_INPUT, FileId::of_input(rt), bytes)
         } else {
             let (name, code) = (STANDARD_INPUT, None);
@@ -184,7 +179,7 @@ impl<'a, I: Read + Drop, M: Watch> OpenInput<'a, I, M> {
             name,
             id,
             bytes,
-            number,
+            input,
             watch,
         })
     }
@@ -218,7 +213,7 @@ impl<'a, I: Read + Drop, M: Watch> OpenInput<'a, I, M> {
     /// The refusal of this input for `fault`. It is `NoEnd` instead of `ReadFault` if no read of the system failed:
     /// then the last line has no end, or isn't the end mark.
     pub(super) fn refusal(&self, alloc: Global, fault: &Fault) -> Refusal<'a> {
-        let has_failed = self.watch.failed().get() == Some(self.number);
+        let has_failed = self.watch.failed().get() == Some(self.input);
         let lacks_end = fault.reason == Reason::ReadFault && !has_failed;
         let (place, reason) = match &self.bytes {
             InputBytes::Regular(file, stamp) if lacks_end && file.lacks_end() => {

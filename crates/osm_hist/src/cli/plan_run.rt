@@ -1,4 +1,4 @@
-//! Runs of a plan. The mirrors take files and pass on what they hold. At the end the job writes the files of the plan.
+//! The job of a plan. Mirrors take files and pass on what they hold. At the end the job writes the files of the plan.
 ghost use Rattle.std.specs.Prelude.{◌<◌, length, IfOk};
 ghost use Rattle.std.specs.List.{All};
 ghost use Rattle.osm_mirror.specs.fleet.Plan.{NamesItsMirrors};

@@ -179,7 +179,7 @@ pub(super) struct InputFiles<'a> {
 pub(super) fn read_list<'a, I: Read + Drop>(
     rt: &impl Host,
     request: &Request<'a>,
-    input: &mut Option<I>,
+    stdin: &mut Option<I>,
 ) -> Result<(String, Option<FileId>), Refusal<'a>> {
     let Some(arg) = request.list else {
         return Ok((String::new(rt.alloc()), None));
@@ -192,7 +192,7 @@ pub(super) fn read_list<'a, I: Read + Drop>(
         let mut file = open(rt, arg)?;
         let bytes = read(rt, &mut file, arg)?;
         (bytes, FileId::of_known(file.metadata()))
-    } else if let Some(mut stream) = input.take() {
+    } else if let Some(mut stream) = stdin.take() {
         (
             read_stream(rt, &mut stream, STANDARD_INPUT)?,
             FileId::of_input(rt),

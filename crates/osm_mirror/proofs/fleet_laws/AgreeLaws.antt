@@ -11,8 +11,7 @@ use Rattle.osm_merge.specs.Selected.{snapshot}
 use Rattle.osm_mirror.specs.fleet.Mirror.{MirrorData}
 use Rattle.osm_mirror.specs.fleet.Fleet.{Source, Opening, File, mirror_at, set_of, union_of_sources}
 use Rattle.osm_mirror.specs.fleet.FleetLaws.{SameFilesAmong, AreEmpty, LatestMirrorsAgree, FullMirrorsAgree}
-use Rattle.osm_mirror.proofs.fleet_laws.FleetLaws.{in_union, in_none}
-use Rattle.osm_files.proofs.SpellLaws.{equal_sets}
+use Rattle.osm_files.proofs.SpellLaws.{equal_sets, in_union, in_none}
 
 in_united : (o : List MirrorData) (r : List Source) (v : VersionData) →
     contains (union_of_sources o r) v ≡ list_any (λ s. contains (set_of o s) v) r

@@ -1,18 +1,17 @@
 -- The histories of mirrors, compared with what reached them, event by event.
 use Rattle.std.proofs.Common.{◌≡◌, ◌≢◌, ℕ, suc, ◌+◌, ◌<◌, ◌≤◌, Bool, true, false, not, ◌&&◌, ◌||◌, nat_eq, List, [], ◌∷◌, ◌++◌, map, length}
-use Rattle.std.proofs.Common.{get_or, set, take, refl, sym, ap, ◌∙◌, subst, arith, inl, inr, is_some, All, Result, Ok, Err, IfOk, OnErr}
+use Rattle.std.proofs.Common.{get_or, set, take, refl, sym, ap, ◌∙◌, subst, arith, inl, inr, All, Result, Ok, Err, IfOk, OnErr}
 use Rattle.std.proofs.lemmas.Bool.{false≢true, cases_Bool, cases_lt, cond-true, cond-false, eqb-true, eqb-false, eq-eqb}
 use Rattle.std.proofs.lemmas.List.{get_or-set_same, get_or-set_other, length-set, get_or_default, length-map, get_or-map, get_or-take}
 use Rattle.std.proofs.lemmas.List.{length-take-le, take_more, take_all}
 use Rattle.std.proofs.Math.Seq.{map-set_same}
 use Rattle.std.specs.Cmp.{first_so, second_so}
-use Rattle.std.specs.FinMap.{get-empty}
 use Rattle.std.specs.List.{list_any}
+use Rattle.std.proofs.Math.Bool.{or_comm}
 use Rattle.osm_model.specs.Data.{VersionData}
 use Rattle.osm_model.specs.Order.{version_cmp, version_cmp_total}
 use Rattle.osm_model.specs.VersionSet.{VersionSet}
 use Rattle.osm_model.specs.Sets.{contains, empty, union, to_list}
-use Rattle.osm_model.proofs.SetLaws.{contains-union}
 use Rattle.osm_model.proofs.VersionLaws.{version_cmp-IsAntisymmetric}
 use Rattle.osm_files.specs.declared.fault.Fault.{Fault}
 use Rattle.osm_files.specs.Verdict.{held_by}
@@ -30,32 +29,11 @@ use Rattle.osm_mirror.specs.fleet.Fleet.{mirror_at, AreOwnSnapshots, mirrors_aft
 use Rattle.osm_mirror.specs.fleet.Fleet.{Track}
 use Rattle.osm_mirror.specs.fleet.Fleet.{is_full, first_track}
 use Rattle.osm_mirror.specs.fleet.Fleet.{with_track, tracks_after, tracks_after_all, set_of, union_of_sources, IsPart, HoldsOf, Converges}
-use Rattle.osm_files.proofs.SpellLaws.{or_grouped}
-use Rattle.osm_files.proofs.SpellLaws.{equal_sets}
+use Rattle.osm_files.proofs.SpellLaws.{equal_sets, grouped, in_union, in_none}
 
 -- ---- sets
-pub in_union : (s t : VersionSet) (v : VersionData) → contains (union s t) v ≡ (contains s v || contains t v)
-in_union s t v = contains-union version_cmp_total s t v
-
--- The empty set has no member.
-pub in_none : (v : VersionData) → contains {R = version_cmp} empty v ≡ false
-in_none v = ap is_some (get-empty {X = Unit {0}} version_cmp v)
-
-or_turned : (a b : Bool) → (a || b) ≡ (b || a)
-or_turned true true = refl
-or_turned true false = refl
-or_turned false true = refl
-or_turned false false = refl
-
 turned_union : (s t : VersionSet) → union s t ≡ union t s
-turned_union s t = equal_sets _ _ (λ v. in_union s t v ∙ or_turned (contains s v) (contains t v) ∙ sym (in_union t s v))
-
-grouped_union : (s t u : VersionSet) → union (union s t) u ≡ union s (union t u)
-grouped_union s t u =
-    equal_sets _ _ (λ v.
-    in_union (union s t) u v ∙ ap (λ (b : Bool). b || contains u v) (in_union s t v)
-    ∙ or_grouped (contains s v) (contains t v) (contains u v)
-    ∙ ap (λ (b : Bool). contains s v || b) (sym (in_union t u v)) ∙ sym (in_union s (union t u) v))
+turned_union s t = equal_sets _ _ (λ v. in_union s t v ∙ or_comm (contains s v) (contains t v) ∙ sym (in_union t s v))
 
 none_and : (s : VersionSet) → union empty s ≡ s
 none_and s = equal_sets _ _ (λ v. in_union empty s v ∙ ap (λ (b : Bool). b || contains s v) (in_none v))
@@ -124,7 +102,7 @@ restarted_holds Latest held u p h =
       full_exact = λ e. absurd (latest_full (h.full_exact e).0);
     }
 
--- a mirror when a run begins
+-- a mirror before the first event
 begun_holds : (keep : Keep) (held : VersionSet) → IsOwnSnapshot (record { keep = keep; held = held })
     → HoldsOf (union held empty) (is_full keep) (record { keep = keep; held = held })
 begun_holds Full held h = record {
@@ -200,7 +178,7 @@ united_both : (openings : List MirrorData) (r s : List Source) →
 united_both openings [] s = sym (none_and (union_of_sources openings s))
 united_both openings (x ∷ r) s =
     ap (union (set_of openings x)) (united_both openings r s)
-    ∙ sym (grouped_union (set_of openings x) (union_of_sources openings r) (union_of_sources openings s))
+    ∙ sym (grouped (set_of openings x) (union_of_sources openings r) (union_of_sources openings s))
 
 -- one mirror changes, and at most its track
 changed_each : (openings mirrors : List MirrorData) (t t2 : ℕ → Track) (to : ℕ) (x : MirrorData) → Each openings t mirrors
@@ -361,7 +339,7 @@ within_more count es i d all below here = λ k e inside.
           subst (λ (n : ℕ). IsWithin count (get_or es n e)) (sym same) (subst (IsWithin count) (get_or_default es i d e below) here))
     ])
 
--- ---- the loop of a run
+-- ---- the loop over events
 -- the first `i` events ran, each with its reply, and there is room for all replies
 pub record IsRunning (old : List MirrorData) (events : List Event) (i : ℕ) (replies : List Reply) (count space : ℕ)
     (mid : List MirrorData) : Type 0 where
@@ -395,7 +373,7 @@ module _ (old mid : List MirrorData) (events : List Event) (i : ℕ) (replies : 
       (subst (λ (rs : List Reply). P (take i events ++ get_or events i d ∷ []) rs) (sym more) next) in
       record { replied = both.0; mirrors = both.1; filled = omega (arith, h.filled, longer); enough = omega (arith, h.enough, same) }
 
-  -- Once each event got its reply, the run converges.
+  -- Once each event got its reply, the mirrors converge.
   pub run_ends : AreOwnSnapshots old → All (IsWithin (length old)) events → length events ≤ i → Converges old events replies mid
   run_ends kept_part within end =
       let all : take i events ≡ events = take_all i events end in

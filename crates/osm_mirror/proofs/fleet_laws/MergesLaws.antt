@@ -1,11 +1,12 @@
 -- Merges of the same files write the same bytes.
-use Rattle.std.proofs.Common.{◌≡◌, ◌⊎◌, inl, inr, ℕ, zero, suc, ◌<◌, Bool, true, false, ◌||◌, List, [], ◌∷◌, ◌++◌, length, get_or, fold}
+use Rattle.std.proofs.Common.{◌≡◌, ◌⊎◌, inl, inr, ℕ, zero, suc, ◌<◌, true, ◌||◌, List, [], ◌∷◌, ◌++◌, length, get_or, fold}
 use Rattle.std.proofs.Common.{refl, sym, ap, ◌∙◌, subst, arith}
 use Rattle.std.specs.Cmp.{both_ways}
 use Rattle.std.specs.List.{All, Contains}
-use Rattle.std.proofs.lemmas.Bool.{false≢true}
+use Rattle.std.proofs.lemmas.Bool.{false≢true, or_cases, or_right, or_left}
 use Rattle.std.proofs.lemmas.List.Elements.{All-nil, All-cons, All-head, All-tail, Contains-append_left, Contains-append_right}
 use Rattle.std.proofs.lemmas.List.Elements.{Contains-append_cases}
+use Rattle.std.proofs.Math.Bool.{or-false, or_assoc}
 use Rattle.osm_model.specs.Data.{VersionData}
 use Rattle.osm_model.specs.Order.{version_cmp_total}
 use Rattle.osm_model.specs.VersionSet.{VersionSet}
@@ -20,22 +21,11 @@ use Rattle.osm_files.proofs.SpellLaws.{held_are_versions, held_is_one_set, spell
 use Rattle.osm_merge.proofs.UnionAllLaws.{some_has}
 use Rattle.osm_mirror.specs.run.Job.{union_of}
 use Rattle.osm_mirror.specs.fleet.Merges.{Inputs, none, file, merged, files_of, Hold, MergesOfTheSameFiles}
-use Rattle.osm_files.proofs.SpellLaws.{or_grouped as or_assoc}
-use Rattle.osm_files.proofs.SpellLaws.{either}
-use Rattle.osm_merge.proofs.SnapLaws.{or_right}
 
 -- ---- the members of the union of the sets
-pub or_false : (b : Bool) → b ≡ (b || false)
-or_false true = refl
-or_false false = refl
-
-or_left : (a b : Bool) → a ≡ true → (a || b) ≡ true
-or_left true b e = refl
-or_left false b e = absurd (false≢true e)
-
 in_fold : (before : VersionSet) (sets : List VersionSet) (v : VersionData) →
     contains (fold union before sets) v ≡ (contains before v || some_has sets v)
-in_fold before [] v = or_false (contains before v)
+in_fold before [] v = sym (or-false (contains before v))
 in_fold before (s ∷ sets) v =
     in_fold (union before s) sets v
     ∙ ap (λ b. b || some_has sets v) (contains-union version_cmp_total before s v)
@@ -92,14 +82,14 @@ brought none [] h v e = absurd (false≢true e)
 brought none (s ∷ held) h v e = absurd h
 brought (file bytes others) [] h v e = absurd h
 brought (file bytes others) (s ∷ held) h v e =
-    elim (either (contains s v) (some_has held v) e) [
+    elim (or_cases (contains s v) (some_has held v) e) [
       | inl has ↦ record { bytes = bytes; set = s; among = (0, omega arith, refl); held = h.0; has = has }
       | inr more ↦ brings_more (files_of others) (bytes ∷ files_of others) v (Contains-append_right (bytes ∷ []) (files_of others))
           (brought others held h.1 v more)
     ]
 brought (merged format inputs others) [] h v e = absurd h
 brought (merged format inputs others) (s ∷ held) h v e =
-    elim (either (contains s v) (some_has held v) e) [
+    elim (or_cases (contains s v) (some_has held v) e) [
       | inl has ↦ brings_more (files_of inputs) (files_of inputs ++ files_of others) v
           (Contains-append_left (files_of inputs) (files_of others))
           (brought inputs h.0.0 h.0.1 v (sym (in_union_of h.0.0 v)

@@ -1,5 +1,5 @@
 -- The histories of mirrors stay within the ranges of versions, and their files are accepted.
-use Rattle.std.proofs.Common.{◌≡◌, ℕ, ◌<◌, ◌^◌, List, [], length, Some, None, Result, Ok, Err}
+use Rattle.std.proofs.Common.{◌≡◌, ℕ, ◌<◌, ◌^◌, List, [], length, Result, Ok, Err}
 use Rattle.std.proofs.Common.{MatchResult, sym, ap, ◌∙◌, subst, arith, inl, inr}
 use Rattle.std.specs.List.Sorted.{IsStrictlySortedBy}
 use Rattle.osm_model.specs.Order.{version_cmp, version_cmp_total}
@@ -25,16 +25,14 @@ use Rattle.osm_mirror.specs.declared.fleet.keep.Keep.{Keep}
 use Rattle.osm_mirror.specs.declared.fleet.keep.Keep.TheVariants.{Full, Latest}
 use Rattle.osm_mirror.specs.fleet.Mirror.{MirrorData, kept_part, after_taking, new_mirror, IsMirror, TakesFile, WhyNotTaken, WhyNotSpelled}
 use Rattle.std.specs.Prelude.{slice_set}
+use Rattle.std.proofs.lemmas.Option.{none-some}
 use Rattle.osm_mirror.specs.fleet.Fleet.{mirror_at, IsShort}
-use Rattle.osm_mirror.proofs.fleet_laws.FleetLaws.{snapshot_part, took_kept, fresh_kept, in_none}
-use Rattle.osm_files.proofs.SpellLaws.{equal_sets}
+use Rattle.osm_mirror.proofs.fleet_laws.FleetLaws.{snapshot_part, took_kept, fresh_kept}
+use Rattle.osm_files.proofs.SpellLaws.{equal_sets, in_none}
 use Rattle.osm_files.proofs.RunOrderLaws.{mapped_fault as some_fault}
 
 within_limit : (count n : ℕ) → count ≡ n → count < 2 ^ 64 → count ≡ capped_count n
 within_limit count n is below = omega (arith, is, below)
-
-none_some : {A : Type 0} {x : A} → None ≡ Some x → ⊥
-none_some e = cc
 
 -- ---- within the ranges of versions
 none_listed : length (to_list (from_list {R = version_cmp} [])) ≡ 0
@@ -117,7 +115,7 @@ written_not_taken bytes format set fault h (inl memory) = inl memory
 written_not_taken bytes format set fault h (inr refused) =
     let none =
     ((held_without_verdict bytes set).0 (record { short = h.short; versions = h.versions; file = h.file; members = h.members })).0 in
-    absurd (none_some (sym none ∙ refused.1))
+    absurd (none-some _ (sym none ∙ refused.1))
 
 -- a mirror that is given the file refuses it only for memory, or takes exactly the writer's history
 pub written_reply : {A : Type 0} (bytes given : List ℕ) (format : Format) (set : VersionSet) (r : Result A Fault) → given ≡ bytes

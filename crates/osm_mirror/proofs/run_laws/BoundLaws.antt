@@ -6,7 +6,7 @@ use Rattle.std.specs.Prelude.{ℤ, pos, negsuc, unsigned_abs}
 use Rattle.std.proofs.lemmas.Bool.{false≢true, ltb-false}
 use Rattle.std.specs.declared.cmp.Ordering.{Ordering}
 use Rattle.std.specs.declared.cmp.Ordering.TheVariants.{Less, Equal, Greater}
-use Rattle.std.specs.Ordering.{ordering_then, is_lt, is_gt, bool_cmp}
+use Rattle.std.specs.Ordering.{is_lt, is_gt, bool_cmp}
 use Rattle.std.specs.Cmp.{tied_itself}
 use Rattle.std.specs.FinMap.{nat_cmp-IsAntisymmetric}
 use Rattle.std.specs.List.{filter, Contains, AllByRecursion}
@@ -22,21 +22,13 @@ use Rattle.osm_model.specs.declared.object.Object.{Object}
 use Rattle.osm_model.specs.Kind.{kind_order}
 use Rattle.osm_model.specs.Order.{is_positive, object_order, object_order_total}
 use Rattle.osm_model.proofs.ObjectLaws.{below_is, not_below}
+use Rattle.osm_model.proofs.TagLaws.{first_equal, second_equal}
+use Rattle.osm_files.proofs.GroupLaws.{neither_joins, all_append}
 use Rattle.osm_mirror.specs.declared.run.bounds.Found.{Found}
 use Rattle.osm_mirror.specs.run.Bounds.{total_weight, weight_if_below, weight_below, is_past, lower, least, bound_of}
 use Rattle.osm_mirror.specs.run.Probes.{Ascend, is_above}
 
 -- ---- objects that tie are the same
-first_equal : (a b : Ordering) → ordering_then a b ≡ Equal → a ≡ Equal
-first_equal Less b e = cc
-first_equal Equal b e = refl
-first_equal Greater b e = cc
-
-second_equal : (a b : Ordering) → ordering_then a b ≡ Equal → b ≡ Equal
-second_equal Less b e = cc
-second_equal Equal b e = e
-second_equal Greater b e = cc
-
 same_kinds : (k l : Kind) → kind_order k ≡ kind_order l → k ≡ l
 same_kinds Node Node e = refl
 same_kinds Node Way e = absurd (omega (arith, e))
@@ -71,13 +63,8 @@ same_objects x y e =
 abbrev pub lt : Object → Object → Bool
 lt x y = is_lt (object_order x y)
 
-no_order : (r : Ordering) → is_lt r ≡ false → is_gt r ≡ false → r ≡ Equal
-no_order Less h k = absurd (false≢true (sym h))
-no_order Equal h k = refl
-no_order Greater h k = absurd (false≢true (sym k))
-
 tied : (x y : Object) → lt x y ≡ false → lt y x ≡ false → x ≡ y
-tied x y h k = same_objects x y (no_order (object_order x y) h (sym (below_is y x) ∙ k))
+tied x y h k = same_objects x y (neither_joins (object_order x y) h (sym (below_is y x) ∙ k))
 
 not_itself : (x : Object) → lt x x ≡ false
 not_itself x = ap is_lt (tied_itself object_order_total x)
@@ -242,10 +229,6 @@ all_below : (x y : Object) (zs : List Found) → lt y x ≡ true → AllByRecurs
 all_below x y [] e h = tt
 all_below x y (z ∷ zs) e h = (below_on z.object y x h.0 e, all_below x y zs e h.1)
 
-all_and : (P : Found → Type 0) (zs : List Found) (y : Found) → AllByRecursion P zs → P y → AllByRecursion P (zs ++ y ∷ [])
-all_and P [] y h e = (e, tt)
-all_and P (z ∷ zs) y h e = (h.0, all_and P zs y h.1 e)
-
 -- the weight of the objects below one is that of those before it which are below it
 pub weight_before : (front : List Found) (x : Found) (rest : List Found) → AllRise (front ++ x ∷ rest) →
     weight_below (front ++ x ∷ rest) x.object ≡ weight_below front x.object
@@ -261,7 +244,7 @@ IsLast front last below =
     ((front ≡ []) × (last ≡ None))
     ⊎ ((init : List Found) × (y : Found) × (front ≡ init ++ y ∷ []) × (last ≡ Some y.object) × (below ≡ weight_below init y.object))
 
--- no object before a place is past the shares
+-- no object before an index is past the shares
 pub record Searched (number count : ℕ) (found front : List Found) (before below : ℕ) (last : Option Object) : Type 0 where
   pub before_is : before ≡ total_weight front
   pub last_is : IsLast front last below
@@ -280,7 +263,7 @@ after_last init y x rest h before below before_is below_is =
     elim (lt y.object x.object) as (λ t. lt y.object x.object ≡ t →
     cond t before below ≡ weight_below (init ++ y ∷ []) x.object) [
       | true ↦ λ e. before_is ∙ sym (all_count x.object (init ++ y ∷ []) (all_below x.object y.object (init ++ y ∷ []) e
-          (all_and (λ z. lt y.object z.object ≡ false) init y (earlier_below init y (x ∷ rest) seam) (not_itself y.object))))
+          (all_append (λ z. lt y.object z.object ≡ false) init (y ∷ []) (earlier_below init y (x ∷ rest) seam) (not_itself y.object, tt))))
       | false ↦ λ e. (let same : y.object ≡ x.object = tied y.object x.object e last_up in
           let whole = sum_by_push (weight_if_below x.object) init y in
           let none : weight_if_below x.object y ≡ 0 = ap (λ t. cond t y.weight 0) e in
@@ -309,16 +292,12 @@ pub search_next : (number count : ℕ) (found front : List Found) (before below 
 search_next number count found front before below last s x next is past = record {
   before_is = ap (λ n. n + x.weight) s.before_is ∙ sym (sum_by_push (λ f. f.weight) front x);
   last_is = inr (front, x, refl, refl, is);
-  none = all_and (λ f. is_past number count found f.object ≡ false) front x s.none past;
+  none = all_append (λ f. is_past number count found f.object ≡ false) front (x ∷ []) s.none (past, tt);
 }
 
 on_objects : (P : Object → Type 0) (zs : List Found) → AllByRecursion (λ f. P f.object) zs → AllByRecursion P (objects zs)
 on_objects P [] h = tt
 on_objects P (z ∷ zs) h = (h.0, on_objects P zs h.1)
-
-both_parts : (P : Object → Type 0) (xs ys : List Object) → AllByRecursion P xs → AllByRecursion P ys → AllByRecursion P (xs ++ ys)
-both_parts P [] ys h k = k
-both_parts P (x ∷ xs) ys h k = (h.0, both_parts P xs ys h.1 k)
 
 whatever : (p : Object → Bool) (x : Object) (zs : List Object) → AllByRecursion (λ y. lt y x ≡ false) zs →
     AllByRecursion (λ y. p y ≡ true → lt y x ≡ false) zs
@@ -341,7 +320,7 @@ search_found number count front x rest h none past =
     let has : Contains (objects front ++ x.object ∷ objects rest) x.object =
     Contains-append_right (objects front) (x.object ∷ objects rest) x.object (0, omega arith, refl) in
     let is : IsLeast p (objects all) (Some x.object) = subst (λ (xs : List Object). IsLeast p xs (Some x.object)) (sym cut)
-    (has, past, both_parts Low (objects front) (x.object ∷ objects rest) early late) in
+    (has, past, all_append Low (objects front) (x.object ∷ objects rest) early late) in
     one_least p (objects all) (objects all) (IsPermutation-refl (objects all)) (Some x.object) (bound_of number count all) is
     (least_is p (objects all))
 

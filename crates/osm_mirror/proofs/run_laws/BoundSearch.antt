@@ -6,13 +6,13 @@ use Rattle.std.proofs.lemmas.List.{take_all}
 use Rattle.std.proofs.lemmas.List.Sums.{sum_by-le-sum_by, sum_by_more, sum_by-take-le}
 use Rattle.std.specs.List.{AllByRecursion}
 use Rattle.osm_model.specs.declared.object.Object.{Object}
+use Rattle.osm_files.proofs.SinkLaws.{front_at}
 use Rattle.osm_mirror.specs.declared.run.bounds.Found.{Found}
 use Rattle.osm_mirror.specs.run.Bounds.{total_weight, weight_if_below, weight_below, is_past, bound_of}
 use Rattle.osm_mirror.specs.run.Probes.{Ascend, is_above}
 use Rattle.osm_mirror.proofs.run_laws.BoundLaws.{lt, AllRise, all_rise, Searched, search_first, search_next, search_found, search_ends}
 use Rattle.osm_mirror.proofs.run_laws.BoundLaws.{next_below}
 use Rattle.osm_mirror.proofs.run_laws.BoundLaws.{IsLast, weight_before}
-use Rattle.osm_mirror.proofs.run_laws.FilesJobLaws.{take_more}
 
 -- a list at an index
 split_at : {X : Type 0} (xs : List X) (k : ℕ) (x : X) → k < length xs → x ≡ get_or xs k x → xs ≡ take k xs ++ x ∷ drop (k + 1) xs
@@ -96,7 +96,7 @@ module _ (number count : ℕ) (found : List Found) where
         Searched number count found (take (index + 1) found) after next (Some x.object)
     search_on fails after after_is =
         let step = search_next number count found front before below last (s short) x next weight_here (sym past_is ∙ fails) in
-        let more : take (index + 1) found ≡ front ++ x ∷ [] = take_more found index x low is in
+        let more : take (index + 1) found ≡ front ++ x ∷ [] = front_at found index x low is in
         let sum : after ≡ total_weight (take (index + 1) found) = sum_more found index x before after low is short
         (s short).before_is after_is in
         record {

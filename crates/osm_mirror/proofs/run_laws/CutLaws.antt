@@ -4,7 +4,7 @@ use Rattle.std.proofs.Common.{◌∷◌}
 use Rattle.std.proofs.Common.{◌==◌}
 use Rattle.std.proofs.Common.{◌++◌, length, take, drop, refl, sym, ap, ◌∙◌, subst, arith, Option, Some, None, IfSome, append-nil}
 use Rattle.std.proofs.Common.{append_assoc, take-append-drop, get_or}
-use Rattle.std.proofs.lemmas.Bool.{false≢true, cases_lt}
+use Rattle.std.proofs.lemmas.Bool.{false≢true, cases_lt, not-true}
 use Rattle.std.specs.declared.cmp.Ordering.{Ordering}
 use Rattle.std.specs.declared.cmp.Ordering.TheVariants.{Less, Equal, Greater}
 use Rattle.std.specs.Ordering.{ordering_then, is_lt}
@@ -115,10 +115,6 @@ not_less Less s e = absurd (false≢true (sym e))
 not_less Equal s e = refl
 not_less Greater s e = refl
 
-is_not : (b : Bool) → not b ≡ true → b ≡ false
-is_not true h = absurd (false≢true h)
-is_not false h = refl
-
 module _ (bound : Object) where
   abbrev under : VersionData → Bool
   under = is_under (Some bound)
@@ -127,13 +123,13 @@ module _ (bound : Object) where
   over = reaches (Some bound)
 
   over_on : (v w : VersionData) → is_lt (key_cmp w v) ≡ false → over v ≡ true → over w ≡ true
-  over_on v w up h = ap not (not_below (object_of w) (object_of v) bound (not_less (object_cmp w v) _ up) (is_not _ h))
+  over_on v w up h = ap not (not_below (object_of w) (object_of v) bound (not_less (object_cmp w v) _ up) (not-true _ h))
 
   under_on : (v w : VersionData) → is_lt (key_cmp w v) ≡ false → under w ≡ true → under v ≡ true
   under_on v w up h =
       elim (under v) as (λ t. under v ≡ t → t ≡ true) [
         | true ↦ λ e. refl
-        | false ↦ λ e. absurd (false≢true (sym (is_not (under w) (over_on v w up (ap not e))) ∙ h))
+        | false ↦ λ e. absurd (false≢true (sym (not-true (under w) (over_on v w up (ap not e))) ∙ h))
       ] refl
 
   all_over : (v : VersionData) (vs : List VersionData) → Rises (Some v) vs → over v ≡ true → AllByRecursion (λ w. over w ≡ true) vs
@@ -163,7 +159,7 @@ module _ (bound : Object) where
   filter_under : (xs ys : List VersionData) → AllByRecursion (λ w. under w ≡ true) xs → AllByRecursion (λ w. over w ≡ true) ys →
       filter under (xs ++ ys) ≡ xs
   filter_under [] [] h k = refl
-  filter_under [] (y ∷ ys) h k = rw (is_not (under y) k.0) (filter_under [] ys h k.1)
+  filter_under [] (y ∷ ys) h k = rw (not-true (under y) k.0) (filter_under [] ys h k.1)
   filter_under (x ∷ xs) ys h k = rw h.0 (ap (λ t. x ∷ t) (filter_under xs ys h.1 k))
 
   filter_over : (xs ys : List VersionData) → AllByRecursion (λ w. under w ≡ true) xs → AllByRecursion (λ w. over w ≡ true) ys →
@@ -477,7 +473,7 @@ module _ (low_bound bound : Object) (rises : is_lt (object_order bound low_bound
   none_under_first (v ∷ versions) =
       elim (reaches (Some bound) v) as (λ t. reaches (Some bound) v ≡ t →
       first_is_under low_bound (cond t (v ∷ filter (reaches (Some bound)) versions) (filter (reaches (Some bound)) versions)) ≡ false) [
-        | true ↦ λ e. not_below (object_of v) bound low_bound (is_not _ e) rises
+        | true ↦ λ e. not_below (object_of v) bound low_bound (not-true _ e) rises
         | false ↦ λ e. none_under_first versions
       ] refl
 

@@ -1,4 +1,4 @@
--- The extents of files that a run for a span reads give the slices of the files' sets, or show that a file isn't sorted.
+-- The extents of files that a job for a span reads give the slices of the files' sets, or show that a file isn't sorted.
 use Rattle.std.proofs.Common.{◌≡◌, ◌⊎◌, inl, inr, ⊎_elim, ℕ, ◌-◌, ◌≤◌, ◌<◌, ◌^◌, Bool, true, false, not, ◌&&◌, ◌||◌, cond, List, []}
 use Rattle.std.proofs.Common.{◌∷◌, ◌++◌, length, take, drop, Option, Some, None, IfSome, refl, sym, ap, ◌∙◌, subst, arith, append-nil}
 use Rattle.std.specs.Cmp.{Equal-is, tied_itself}
@@ -50,9 +50,10 @@ use Rattle.osm_mirror.specs.run.ShardRefusal.{IsFileRefusal}
 use Rattle.osm_mirror.specs.run.SliceJob.{given_slice, IsPartRead, HasSlice, GivesSlice}
 use Rattle.osm_mirror.proofs.run_laws.InputRefusalLaws.{has_number}
 use Rattle.osm_mirror.specs.declared.run.files_job.Order.TheVariants.{Sorted}
-use Rattle.osm_mirror.proofs.run_laws.ShardExtentLaws.{part_holds, part_rises, within_itself}
+use Rattle.osm_mirror.proofs.run_laws.ShardExtentLaws.{part_holds, part_rises}
 use Rattle.osm_mirror.proofs.run_laws.ProbeLaws.{opl_is, opl_starts, probe_refuses}
 use Rattle.osm_mirror.proofs.fleet_laws.MergesLaws.{as_held}
+use Rattle.osm_mirror.proofs.run_laws.SourceLaws.{slices_are_within}
 
 -- ---- the extent of a file
 pub lines_part : (known : Option (List ℕ)) (span : Span) (size_is start end : ℕ) → BeginsAs known 0 false →
@@ -309,7 +310,7 @@ module _ (span : Span) (Fails : Type 0) (all : List ℕ) (extent : FileExtent) (
         ∙ ap (slice_of span.from span.to) whole)
         read.complete
 
-    -- the set that a run takes of the extent is the slice
+    -- the set that a job takes of the extent is the slice
     pub found_is : (given : Outside × InputRest) (found : VersionSet) → given.0 ≡ outside
         → RunCanGive Fails (Some all) extent.run extent.size given.1 → HasSlice span given found → found ≡ slice_of span.from span.to set
     found_is (Refused, c) found e gives slice =
@@ -328,7 +329,7 @@ module _ (span : Span) (Fails : Type 0) (all : List ℕ) (extent : FileExtent) (
         let unbroken = unbroken_if c.broken (λ b. never (broken_fails Fails all extent.run extent.size c is.size gives b)) in (
           subst (λ (s : VersionSet). GivesSorted c s) (set_is Refused e)
               (record { unbroken = unbroken; file = whole_input c gives unbroken }),
-          within_itself span set,
+          slices_are_within span set,
         )
     good_is never (Dropped, c) e gives =
         let unbroken = unbroken_if c.broken (λ b. never (broken_fails Fails all extent.run extent.size c is.size gives b)) in (

@@ -1,8 +1,8 @@
--- Runs over good files: they are refused for memory or the output only, and write a front of their file.
-use Rattle.std.proofs.Common.{◌≡◌, ◌⊎◌, inl, inr, ⊎_elim, ℕ, zero, suc, ◌+◌, ◌-◌, ◌<◌, ◌^◌, Bool, true, false, List, [], ◌∷◌, ◌++◌}
+-- Jobs over good files: they are refused for memory or the output only, and write a front of their file.
+use Rattle.std.proofs.Common.{◌≡◌, ◌⊎◌, inl, inr, ⊎_elim, ℕ, zero, suc, ◌+◌, ◌-◌, ◌<◌, ◌^◌, Bool, false, List, [], ◌∷◌, ◌++◌}
 use Rattle.std.proofs.Common.{length, map, Option, Some, None, IfSome, slice_get, refl, sym, ap, ◌∙◌, subst, arith}
 use Rattle.std.specs.List.{All}
-use Rattle.std.proofs.lemmas.Bool.{false≢true}
+use Rattle.std.proofs.lemmas.Bool.{false≢true, false_from_ne_true}
 use Rattle.std.proofs.lemmas.List.Elements.{All-head, All-tail}
 use Rattle.osm_model.specs.Order.{version_cmp}
 use Rattle.osm_model.specs.VersionSet.{VersionSet}
@@ -65,10 +65,6 @@ given_as_file : (order : Order) (c : InputRest) (held : VersionSet) → GivesAs 
 given_as_file Sorted c held h = h
 given_as_file Any c held h = h
 
-unbroken_if : (b : Bool) → (b ≡ true → ⊥) → b ≡ false
-unbroken_if true never = absurd (never refl)
-unbroken_if false never = refl
-
 -- a file holds one set
 one_set : (bytes : List ℕ) (s t : VersionSet) → Holds bytes s → Holds bytes t → s ≡ t
 one_set bytes s t a b =
@@ -102,7 +98,7 @@ module _ {I : Type 0} (gives : I → InputRest → Type 0) (Fails : Type 0) (nev
   Opens order = OpensRun gives Fails (Some all) size order
 
   run_unbroken : (run : SortedRun) (c : InputRest) → RunCanGive Fails (Some all) run size c → c.broken ≡ false
-  run_unbroken run c gave = unbroken_if c.broken (λ broken. never (broken_fails Fails all run size c long gave broken))
+  run_unbroken run c gave = false_from_ne_true c.broken (λ broken. never (broken_fails Fails all run size c long gave broken))
 
   run_is_file : (order : Order) (run : SortedRun) (c : InputRest) (held : VersionSet) → RunCanGive Fails (Some all) run size c
       → HoldsAs order (run_bytes run all) held → IsFileAs (read_as_of order, c) held
@@ -336,7 +332,7 @@ module _ {F R I O : Type 0} (fails : F → Type 0) (bytes : F → Option (List �
         ⊎_elim (λ memory. inl memory) (λ found. inr (inr found))
         (output_why _ c.count (change_of output before after).failed
         (why_moved _ c.count (change_of output before after).failed c.why))
-    turn_why (inr (inr (read, inr f))) = of_inputs (refused_at 0 given f.place fault f.within f.refusal)
+    turn_why (inr (inr (read, inr f))) = of_inputs (refused_at 0 given f.index fault f.within f.refusal)
 
   -- A refused job over the inputs of files is a refused turn.
   pub turn_refused : SortedRunsHoldTheFile

@@ -1,9 +1,8 @@
 -- The inputs of open files give what the files hold.
-use Rattle.std.proofs.Common.{◌≡◌, ℕ, zero, suc, ◌+◌, ◌<◌, List, [], ◌∷◌, ◌++◌, length, map, take, drop, get_or, set, Option, Some}
+use Rattle.std.proofs.Common.{◌≡◌, ℕ, zero, suc, ◌+◌, ◌<◌, List, [], ◌∷◌, ◌++◌, length, map, drop, get_or, set, Option, Some}
 use Rattle.std.proofs.Common.{None, append-nil}
 use Rattle.std.proofs.Common.{inl, inr, append_assoc, refl, sym, ap, ◌∙◌, subst, IfSome, arith}
 use Rattle.std.specs.List.{zip}
-use Rattle.std.proofs.Math.Seq.{take-suc}
 use Rattle.osm_model.specs.VersionSet.{VersionSet}
 use Rattle.osm_model.specs.Sets.{size}
 use Rattle.osm_model.specs.Pairwise.{Pairwise}
@@ -132,20 +131,11 @@ drop_one (y ∷ xs) (suc n) x within is =
     let next : suc n + 1 ≡ suc (n + 1) = omega arith in
     drop_one xs n x (omega (arith, within)) is ∙ ap (λ k. x ∷ drop k (y ∷ xs)) (sym next)
 
--- the front of a list with one member more
-pub take_more : {X : Type 0} (xs : List X) (n : ℕ) (x : X) → n < length xs → x ≡ get_or xs n x → take (n + 1) xs ≡ take n xs ++ x ∷ []
-take_more xs n x within is =
-    let next : n + 1 ≡ suc n = omega arith in
-    ap (λ k. take k xs) next ∙ take-suc xs n x within ∙ ap (λ y. take n xs ++ y ∷ []) (sym is)
-
 -- ---- known bytes
 pub known_case : (known : Option (List ℕ)) (P Q : List ℕ → Type 0) → ((all : List ℕ) → known ≡ Some all → P all → Q all)
     → IfSome known P → IfSome known Q
 known_case None P Q more h = tt
 known_case (Some all) P Q more h = more all refl h
-
-pub known_given : (known : Option (List ℕ)) (P : List ℕ → Type 0) (all : List ℕ) → known ≡ Some all → IfSome known P → P all
-known_given known P all is h = subst (λ (k : Option (List ℕ)). IfSome k P) is h
 
 -- ---- one input
 as_held : (order : Order) (c : InputRest) (held : VersionSet) → GivesAs (read_as_of order, c) held → HoldsAs order c.bytes held
@@ -268,7 +258,7 @@ module _ {F R I : Type 0} (fails : F → Type 0) (bytes : F → Option (List ℕ
       known_holds gives (fails f.now) way order law inputs given held g p (bytes f.now) fits opens
   one_holds law (Stream r) way inputs given held fits opens g p = stream_holds r way inputs given held fits opens g p
 
-  -- If a run over the inputs of files accepts them, the files hold sets, and the union of these is that of the inputs' sets.
+  -- If a job over the inputs of files accepts them, the files hold sets, and the union of these is that of the inputs' sets.
   pub files_hold : SortedRunsHoldTheFile → (files : List (JobFile F R)) (ways : List FileWay) (inputs : List (InputFile I))
       (given : List (ReadAs × InputRest)) (held : List VersionSet) → FilesFit bytes order files ways
       → OpensFiles fails bytes can gives files ways inputs → AllGive (InputFileCanGive gives) inputs given → Pairwise GivesAs given held

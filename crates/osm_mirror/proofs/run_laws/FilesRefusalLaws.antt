@@ -1,10 +1,11 @@
--- Why a run over files is refused: the faults of its inputs are those of its files.
+-- Why a job over files is refused: the faults of its inputs are those of its files.
 use Rattle.std.proofs.Common.{◌≡◌, ◌⊎◌, inl, inr, ⊎_elim, ℕ, zero, suc, ◌+◌, ◌-◌, ◌<◌, ◌≤◌, ◌^◌, true, List, [], ◌∷◌, ◌++◌}
 use Rattle.std.proofs.Common.{length, Option, Some, None, IfSome, slice_get, refl, sym, ap, ◌∙◌, subst, arith, append_assoc}
 use Rattle.std.proofs.Common.{length-append, Bor}
 use Rattle.std.specs.List.{All}
 use Rattle.std.proofs.lemmas.Bool.{false≢true}
 use Rattle.std.proofs.lemmas.List.Elements.{All-head, All-tail}
+use Rattle.std.proofs.lemmas.Option.{slice_get_past}
 use Rattle.osm_model.specs.VersionSet.{VersionSet}
 use Rattle.osm_model.specs.Pairwise.{Pairwise}
 use Rattle.osm_files.specs.declared.fault.Fault.{Fault}
@@ -42,27 +43,27 @@ use Rattle.osm_mirror.proofs.run_laws.FilesJobLaws.{cut, as_pairs, as_given}
 use Rattle.osm_mirror.proofs.run_laws.InputRefusalLaws.{SomeRefused, some_of_both, any_refused, has_number}
 
 -- ---- the fault of a run
--- a fault of the file `number` that isn't out of memory
-pub record IsAt (number place : ℕ) (reason : Reason) (fault : Fault) : Type 0 where
-  pub input_is : fault.input ≡ number
+-- a fault of the file `input` that isn't out of memory
+pub record IsAt (input place : ℕ) (reason : Reason) (fault : Fault) : Type 0 where
+  pub input_is : fault.input ≡ input
   pub place_is : fault.place ≡ place
   pub reason_is : fault.reason ≡ reason
   pub other : reason ≡ Memory → ⊥
 
 -- the fault for a reason at an offset, unless it is out of memory
-pub at_is : (number place : ℕ) (reason : Reason) → (fault_at number place reason ≡ memory_fault)
-    ⊎ IsAt number place reason (fault_at number place reason)
-at_is number place Memory = inl refl
-at_is number place (Opl inner) = inr (record { input_is = refl; place_is = refl; reason_is = refl; other = λ e. cc })
-at_is number place (O5 inner) = inr (record { input_is = refl; place_is = refl; reason_is = refl; other = λ e. cc })
-at_is number place BadHeader = inr (record { input_is = refl; place_is = refl; reason_is = refl; other = λ e. cc })
-at_is number place Unsorted = inr (record { input_is = refl; place_is = refl; reason_is = refl; other = λ e. cc })
-at_is number place NoEnd = inr (record { input_is = refl; place_is = refl; reason_is = refl; other = λ e. cc })
-at_is number place AfterEnd = inr (record { input_is = refl; place_is = refl; reason_is = refl; other = λ e. cc })
-at_is number place TooLong = inr (record { input_is = refl; place_is = refl; reason_is = refl; other = λ e. cc })
-at_is number place ReadFault = inr (record { input_is = refl; place_is = refl; reason_is = refl; other = λ e. cc })
-at_is number place WriteFault = inr (record { input_is = refl; place_is = refl; reason_is = refl; other = λ e. cc })
-at_is number place Failed = inr (record { input_is = refl; place_is = refl; reason_is = refl; other = λ e. cc })
+pub at_is : (input place : ℕ) (reason : Reason) → (fault_at input place reason ≡ memory_fault)
+    ⊎ IsAt input place reason (fault_at input place reason)
+at_is input place Memory = inl refl
+at_is input place (Opl inner) = inr (record { input_is = refl; place_is = refl; reason_is = refl; other = λ e. cc })
+at_is input place (O5 inner) = inr (record { input_is = refl; place_is = refl; reason_is = refl; other = λ e. cc })
+at_is input place BadHeader = inr (record { input_is = refl; place_is = refl; reason_is = refl; other = λ e. cc })
+at_is input place Unsorted = inr (record { input_is = refl; place_is = refl; reason_is = refl; other = λ e. cc })
+at_is input place NoEnd = inr (record { input_is = refl; place_is = refl; reason_is = refl; other = λ e. cc })
+at_is input place AfterEnd = inr (record { input_is = refl; place_is = refl; reason_is = refl; other = λ e. cc })
+at_is input place TooLong = inr (record { input_is = refl; place_is = refl; reason_is = refl; other = λ e. cc })
+at_is input place ReadFault = inr (record { input_is = refl; place_is = refl; reason_is = refl; other = λ e. cc })
+at_is input place WriteFault = inr (record { input_is = refl; place_is = refl; reason_is = refl; other = λ e. cc })
+at_is input place Failed = inr (record { input_is = refl; place_is = refl; reason_is = refl; other = λ e. cc })
 
 -- the place in a file of a fault of the whole file
 whole_place : (place : ℕ) → place < 2 ^ 64 → offset_in_file whole_run place ≡ place
@@ -207,11 +208,6 @@ numbers n (x ∷ xs) fault (first, ordered) (inr more) =
 get_after : {X : Type 0} (xs : List X) (x : X) (ys : List X) → slice_get (xs ++ x ∷ ys) (length xs) ≡ Some x
 get_after [] x ys = refl
 get_after (z ∷ xs) x ys = get_after xs x ys
-
-pub none_after : {X : Type 0} (xs : List X) (k : ℕ) → length xs ≤ k → slice_get xs k ≡ None
-none_after [] k low = refl
-none_after (x ∷ xs) zero low = absurd (omega (arith, low))
-none_after (x ∷ xs) (suc k) low = none_after xs k (omega (arith, low))
 
 module _ {F R I : Type 0} (fails : F → Type 0) (bytes : F → Option (List ℕ)) (can : R → InputRest → Type 0)
     (gives : I → InputRest → Type 0) (order : Order) where
@@ -406,7 +402,7 @@ module _ {F R I : Type 0} (fails : F → Type 0) (bytes : F → Option (List ℕ
       let low = between.0 in
       let long = sized.1 in
       let none : slice_get way.runs.items (fault.input - n) ≡ None =
-      none_after way.runs.items (fault.input - n) (omega (arith, low, long)) in
+      slice_get_past way.runs.items (fault.input - n) (omega (arith, low, long)) in
       let index : fault.input - (n + length c.before) ≡ fault.input - n - length way.runs.items = omega (arith, low, long) in
       let next : Fault = fault_in_files (number + 1) ways (fault.input - n - length way.runs.items) fault in
       let rest = subst (λ (k : ℕ). (fault_in_files (number + 1) ways k fault ≡ memory_fault)
@@ -443,7 +439,7 @@ module _ {F R I : Type 0} (fails : F → Type 0) (bytes : F → Option (List ℕ
       let second = as_given (InputFileCanGive gives) others c.after c.second in
       let long = (file_ordered file way added c.before fits.0 one first).1 in
       let all : k ≡ length c.before + length c.after = is ∙ ap length c.joined ∙ length-append c.before c.after in
-      let none : slice_get way.runs.items k ≡ None = none_after way.runs.items k (omega (arith, long, all)) in
+      let none : slice_get way.runs.items k ≡ None = slice_get_past way.runs.items k (omega (arith, long, all)) in
       let left : k - length way.runs.items ≡ length c.after = omega (arith, long, all) in
       let counted : number + 1 + length files ≡ number + suc (length files) = omega arith in
       ap (λ (found : Option SortedRun). fault_in_run_or number found fault

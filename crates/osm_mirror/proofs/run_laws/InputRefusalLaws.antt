@@ -1,14 +1,13 @@
--- Why a run is refused: the fault of one of its inputs, which has the number of that input.
+-- Why a job is refused: the fault of one of its inputs, which has the number of that input.
 use Rattle.std.proofs.Common.{◌≡◌, ◌⊎◌, inl, inr, ⊎_elim, ℕ, zero, suc, ◌+◌, ◌<◌, List, [], ◌∷◌, ◌++◌}
 use Rattle.std.proofs.Common.{length, Option, Some, None, sym, ap, ◌∙◌, subst, arith}
-use Rattle.std.proofs.Common.{option_map}
 use Rattle.osm_files.specs.declared.fault.Fault.{Fault}
 use Rattle.osm_files.specs.Input.{InputRest}
-use Rattle.osm_files.specs.Position.{units_from, with_input, fault_of}
+use Rattle.osm_files.specs.Position.{units_from, with_input}
 use Rattle.osm_files.specs.SourceLaws.{input_verdict}
-use Rattle.osm_files.specs.Stream.{Verdict}
 use Rattle.osm_files.specs.Verdict.{versions_of}
 use Rattle.osm_files.proofs.HoldLaws.{source_refusal}
+use Rattle.osm_files.proofs.FirstLaws.{refusal_input}
 use Rattle.osm_merge.specs.ToCome.{rest_at}
 use Rattle.osm_mirror.specs.declared.run.files_job.Order.{Order}
 use Rattle.osm_mirror.specs.declared.run.files_job.Order.TheVariants.{Sorted, Any}
@@ -23,9 +22,9 @@ abbrev pub SomeRefused : ℕ → List (ReadAs × InputRest) → Fault → Type 0
 SomeRefused number [] fault = ⊥
 SomeRefused number (x ∷ xs) fault = ((source_of number x).refusal ≡ Some fault) ⊎ SomeRefused (number + 1) xs fault
 
-pub refused_at : (number : ℕ) (inputs : List (ReadAs × InputRest)) (place : ℕ) (fault : Fault) → place < length (sources number inputs)
-    → (rest_at (sources number inputs) place).refusal ≡ Some fault → SomeRefused number inputs fault
-refused_at number [] place fault low e = absurd (omega (arith, low))
+pub refused_at : (number : ℕ) (inputs : List (ReadAs × InputRest)) (index : ℕ) (fault : Fault) → index < length (sources number inputs)
+    → (rest_at (sources number inputs) index).refusal ≡ Some fault → SomeRefused number inputs fault
+refused_at number [] index fault low e = absurd (omega (arith, low))
 refused_at number (x ∷ xs) zero fault low e = inl e
 refused_at number (x ∷ xs) (suc k) fault low e = inr (refused_at (number + 1) xs k fault (omega (arith, low)) e)
 
@@ -64,14 +63,9 @@ unfolding held_source
 any_refused number c fault e =
     let units = with_input number (units_from None 0 c) in held_refused units.refusal (versions_of units.list) fault e
 
-fault_has : (number : ℕ) (v : Option Verdict) (fault : Fault) → option_map (fault_of number) v ≡ Some fault → fault.input ≡ number
-fault_has number None fault e = absurd (let f : None ≡ Some fault = e in cc)
-fault_has number (Some w) fault e =
-    let same : fault_of number w ≡ fault = (let f : Some (fault_of number w) ≡ Some fault = e in cc) in ap (λ f. f.input) (sym same)
-
 -- the fault of an input has its number
 pub has_number : (order : Order) (number : ℕ) (c : InputRest) (fault : Fault)
     → (source_of number (read_as_of order, c)).refusal ≡ Some fault
     → fault.input ≡ number
-has_number Sorted number c fault e = fault_has number (input_verdict c) fault (sym (source_refusal number c) ∙ e)
-has_number Any number c fault e = fault_has number (units_from None 0 c).refusal fault (any_refused number c fault e)
+has_number Sorted number c fault e = refusal_input number (input_verdict c) fault (sym (source_refusal number c) ∙ e)
+has_number Any number c fault e = refusal_input number (units_from None 0 c).refusal fault (any_refused number c fault e)

@@ -1,4 +1,4 @@
--- The output of the runs over files, and the reasons why they are refused, from the merge of the files' sources.
+-- The output of the jobs over files, and the reasons why they are refused, from the merge of the files' sources.
 use Rattle.std.proofs.Common.{◌≡◌, inl, inr, ℕ, ◌+◌, List, [], ◌∷◌, length, map, refl, sym, ap, ◌∙◌, subst, Some, None, sum_by, Result}
 use Rattle.std.proofs.Common.{Ok, Err, IfOk, IfErr}
 use Rattle.std.specs.List.{All}
@@ -75,10 +75,10 @@ module _ {O : Type 0} (output : Ghosts O) (selection : Selection) (format : Form
       subst (λ (s : VersionSet). CutShort (length inputs) (change_of output before after) (spell format (selection_of selection s)) fault)
       (union_given_is (sources 0 inputs) ∙ ap union_of (as_all_given 0 inputs held h).0) cut
   cut_is inputs fault (inr (inr (read, inr f))) = λ held h.
-      absurd (let none : (source.rest_at (sources 0 inputs) f.place).refusal ≡ None = (as_all_given 0 inputs held h).1 f.place _ f.within
+      absurd (let none : (source.rest_at (sources 0 inputs) f.index).refusal ≡ None = (as_all_given 0 inputs held h).1 f.index _ f.within
       in let e : None ≡ Some fault = sym none ∙ f.refusal in cc)
 
-  -- why a run was refused, with the bytes that it wrote
+  -- why a job was refused, with the bytes that it wrote
   pub refuses : (inputs : List (ReadAs × InputRest)) (fault : Fault) → IsJobRefused output selection inputs format before after fault
       → RefusesJob output selection inputs format before after fault
   refuses inputs fault why = record { why = why; cut = cut_is inputs fault why }
@@ -100,7 +100,7 @@ module _ {R : Type 0} (can : R → InputRest → Type 0) {O : Type 0} (output : 
 
   module _ (opened : List (InputSource R)) (are : AreOpened can 0 files opened) (given : Format) (same : given ≡ format)
       (before after : O) where
-    -- A merge of the opened sources writes the same as the run.
+    -- A merge of the opened sources writes the same as the job.
     pub ran_written : (result : Result Counts Fault)
         → IfOk result (λ counts. SomeInputsGive (SourceCanGive can) opened
         (λ all. merged.IsMergedAs selection all given (change_of output before after) counts))
@@ -118,7 +118,7 @@ module _ {R : Type 0} (can : R → InputRest → Type 0) {O : Type 0} (output : 
         )
     ran_written (Err fault) h = tt
 
-    -- A merge of the opened sources that is refused refuses the run.
+    -- A merge of the opened sources that is refused refuses the job.
     pub ran_refused : (number : ℕ) → number ≡ length files → (result : Result Counts Fault)
         → IfErr result (λ fault. SomeInputsGive (SourceCanGive can) opened
         (λ all. merged.IsRefusedAs selection all given number (change_of output before after) fault))
@@ -135,8 +135,8 @@ module _ {R : Type 0} (can : R → InputRest → Type 0) {O : Type 0} (output : 
         (subst (λ (f : Format). merged.IsRefusedAs selection (sources 0 q.0) f number (change_of output before after) fault) same m) in
         (q.0, q.1, refuses output selection format before after q.0 fault (inr (inr (q.3, why))))
 
--- ---- runs whose inputs are all read in one way
--- `as_file` is the input that a run reads for an input of such a run.
+-- ---- jobs whose inputs are all read in one way
+-- `as_file` is the input that a job reads for an input of such a job.
 module _ {I : Type 0} (as_file : I → ReadAs × InputRest) where
   of_mapped_pairs : (Gives : ReadAs × InputRest → VersionSet → Type 0) (inputs : List I) (held : List VersionSet) →
       Pairwise Gives (map as_file inputs) held → Pairwise (λ c. Gives (as_file c)) inputs held
@@ -157,7 +157,7 @@ module _ {I : Type 0} (as_file : I → ReadAs × InputRest) where
   mapped_sources number [] = refl
   mapped_sources number (c ∷ inputs) = ap (λ all. source_of number (as_file c) ∷ all) (mapped_sources (number + 1) inputs)
 
-  -- what such a run wrote and counted
+  -- what such a job wrote and counted
   mapped_run : (choice : VersionSet → VersionSet) (Compared : ℕ → ℕ → ℕ → Type 0) (inputs : List I) (format : Format) (change : Change)
       (counts : Counts) → IsJobBy GivesAs choice Compared (map as_file inputs) format change counts →
       IsJobBy (λ c. GivesAs (as_file c)) choice Compared inputs format change counts
@@ -177,7 +177,7 @@ module _ {I : Type 0} (as_file : I → ReadAs × InputRest) where
       subst (λ n. CutShort n change (spell format (choice (union_of held))) fault) (length-map inputs as_file)
       (cut held (to_mapped_pairs IsFileAs inputs held h))
 
-  -- runs that read no input to its end first
+  -- jobs that read no input to its end first
   module _ (never : (number : ℕ) (c : I) (fault : Fault) → CannotBeRead number (as_file c) fault → ⊥) where
     none_unread : (number : ℕ) (inputs : List I) (fault : Fault) → IsUnread number (map as_file inputs) fault → ⊥
     none_unread number [] fault h = h
@@ -199,7 +199,7 @@ module _ {I : Type 0} (as_file : I → ReadAs × InputRest) where
           (subst (λ n. merged.IsRefusedAs selection (sources 0 (map as_file inputs)) format n (change_of output before after) fault)
           (length-map inputs as_file) refused)
 
-      -- why such a run was refused, and the bytes that it wrote
+      -- why such a job was refused, and the bytes that it wrote
       mapped_refuses : (inputs : List I) → RefusesJob output selection (map as_file inputs) format before after fault →
           RefusesJobBy (merged.IsRefusedAs selection (sources_by (λ n c. source_of n (as_file c)) 0 inputs) format (length inputs)
           (change_of output before after) fault) (λ c. IsFileAs (as_file c)) (selection_of selection) inputs format
@@ -209,7 +209,7 @@ module _ {I : Type 0} (as_file : I → ReadAs × InputRest) where
         cut = mapped_cut (selection_of selection) inputs format (change_of output before after) fault r.cut;
       }
 
--- The files of a run, which are read for these items: what the files can give, the items can give.
+-- The files of a job, which are read for these items: what the files can give, the items can give.
 module _ {R X I : Type 0} (can : R → InputRest → Type 0) (file : X → InputFile R) (gives : X → I → Type 0)
     (as_file : I → ReadAs × InputRest)
     (back : (x : X) (input : ReadAs × InputRest) → InputFileCanGive can (file x) input → (c : I) × gives x c × (input ≡ as_file c)) where
@@ -287,7 +287,7 @@ module _ {O : Type 0} (output : Ghosts O) (format : Format) (before after : O) w
       ]
 
   module _ {R : Type 0} (can : R → InputRest → Type 0) (readers : List R) (files : List (InputFile R)) where
-    -- A run over files that are all sorted is a merge of their readers.
+    -- A job over files that are all sorted is a merge of their readers.
     pub merge_done : files ≡ map (file_as Sorted) readers → (counts : Counts) →
         SomeInputsGive (InputFileCanGive can) files (λ all. IsJob selection.All all format (change_of output before after) counts) →
         SomeInputsGive can readers (λ all. merge.IsMerged all format (change_of output before after) counts)
@@ -306,7 +306,7 @@ module _ {O : Type 0} (output : Ghosts O) (format : Format) (before after : O) w
         let q = of_readers can Sorted readers files are (λ all. RefusesJob output selection.All all format before after fault) h in
         (q.0, q.1, merge_refuses q.0 fault q.2)
 
-    -- A run over files that may all have any order is a command over their readers.
+    -- A job over files that may all have any order is a command over their readers.
     pub command_done : (selection : Selection) → files ≡ map (file_as Any) readers → (counts : Counts) →
         SomeInputsGive (InputFileCanGive can) files (λ all. IsJob selection all format (change_of output before after) counts) →
         SomeInputsGive can readers (λ all. IsWritten (selection_of selection) all format (change_of output before after)
@@ -336,7 +336,7 @@ module _ {O : Type 0} (output : Ghosts O) (format : Format) (before after : O) w
 
   module _ {R : Type 0} (can : R → InputRest → Type 0) (slice : Slice) (items : List (SliceFile R)) (files : List (InputFile R))
       (are : files ≡ map (file_within slice.span) items) where
-    -- A run over files within a span is a run for a slice.
+    -- A job over files within a span is a job for a slice.
     pub slice_done : (counts : Counts) →
         SomeInputsGive (InputFileCanGive can) files (λ all. IsJob slice.selection all format (change_of output before after) counts) →
         SomeInputsGive (SliceFileCanGive can) items (λ all. IsSliceJob slice all format (change_of output before after) counts)
@@ -357,7 +357,7 @@ module _ {O : Type 0} (output : Ghosts O) (format : Format) (before after : O) w
         (λ all. RefusesJob output slice.selection all format before after fault) h in
         (q.0, q.1, slice_refuses slice q.0 fault q.2)
 
--- ---- runs for which memory ran out before a file was opened
+-- ---- jobs for which memory ran out before a file was opened
 module _ {R : Type 0} (can : R → InputRest → Type 0) (one : R → InputRest) (possible : (r : R) → can r (one r)) {O : Type 0}
     (output : Ghosts O) (format : Format) (before : O) (fault : Fault) (memory : fault ≡ memory_fault) where
   at_once : (selection : Selection) (inputs : List (ReadAs × InputRest)) → RefusesJob output selection inputs format before before fault
@@ -377,7 +377,7 @@ module _ {R : Type 0} (can : R → InputRest → Type 0) (one : R → InputRest)
       SomeInputsGive can readers (λ all. IsNotWritten output choice all format before before fault)
   command_at_once choice readers = (map one readers, give_one can one possible readers, inl (memory, refl))
 
-  -- A run for a slice that runs out of memory before it reads wrote nothing.
+  -- A job for a slice that runs out of memory before it reads wrote nothing.
   pub slice_at_once : (slice : Slice) (items : List (SliceFile R)) →
       SomeInputsGive (SliceFileCanGive can) items (λ all. RefusesSlice slice all format (change_of output before before) fault)
   slice_at_once slice items =

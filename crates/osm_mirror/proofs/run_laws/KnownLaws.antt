@@ -1,4 +1,4 @@
--- The results of the runs if inputs report their bytes beforehand.
+-- The results of the jobs if inputs report their bytes beforehand.
 use Rattle.std.proofs.Common.{◌≡◌, ℕ, List, [], ◌∷◌, length, arith, refl, sym, subst, inl, inr}
 use Rattle.std.specs.List.{All}
 use Rattle.std.proofs.lemmas.List.Elements.{All-cons, All-nil}
@@ -54,14 +54,14 @@ merges_known can output inputs format before after = record {
   files = λ counts h. each_known can merge.GivesSorted inputs h.0 h.2.held h.1 h.2.files;
 }
 
-pub runs_known : {R O : Type 0} (can : R → InputRest → Type 0) (output : Ghosts O) → JobsOfKnown can output
-runs_known can output selection inputs format before after = record {
+pub jobs_known : {R O : Type 0} (can : R → InputRest → Type 0) (output : Ghosts O) → JobsOfKnown can output
+jobs_known can output selection inputs format before after = record {
   done = λ counts. holds_of_known (InputFileCanGive can) inputs (λ all. IsJob selection all format (change_of output before after) counts);
   refused = λ fault. holds_of_known (InputFileCanGive can) inputs (λ all. RefusesJob output selection all format before after fault);
   files = λ counts h. each_known (InputFileCanGive can) GivesAs inputs h.0 h.2.held h.1 h.2.files;
 }
 
--- A run that is done wrote the file of a set.
+-- A job that is done wrote the file of a set.
 pub writes_set : {C : Type 0} (Gives : C → VersionSet → Type 0) (choice : VersionSet → VersionSet) (Compared : ℕ → ℕ → ℕ → Type 0)
     (all : List C) (format : Format) (change : Change) (counts : Counts) → IsJobBy Gives choice Compared all format change counts →
     WritesSet format change counts
@@ -80,9 +80,9 @@ none_begun output set format before after same =
     subst (λ (a : _). HasBegunIn set format (change_of output before a)) (sym same)
     (record { count = 0; within = omega arith; appended = nothing_appended (output.holds before) })
 
--- A run that is refused wrote a front of the file of the selection.
-pub runs_begun : {O : Type 0} (output : Ghosts O) → RefusedJobsHaveBegun output
-runs_begun output selection all format before after fault refused =
+-- A job that is refused wrote a front of the file of the selection.
+pub jobs_begun : {O : Type 0} (output : Ghosts O) → RefusedJobsHaveBegun output
+jobs_begun output selection all format before after fault refused =
     let set = selection_of selection (union_given (sources 0 all)) in
     elim refused.why [
       | inl (memory, same) ↦ none_begun output set format before after same

@@ -1,13 +1,14 @@
 -- The objects of an ascending list: the versions of one object are adjacent, and the last of them is its newest.
 use Rattle.std.proofs.Common.{◌≡◌, suc, ◌+◌, Bool, true, false, not, ◌&&◌, ◌||◌, cond, List, [], ◌∷◌, length, refl, sym, ap, ◌∙◌, arith}
 use Rattle.std.proofs.Common.{Some, None}
-use Rattle.std.proofs.lemmas.Bool.{false≢true}
+use Rattle.std.proofs.lemmas.Bool.{false≢true, false_from_ne_true}
 use Rattle.std.specs.declared.cmp.Ordering.TheVariants.{Less}
 use Rattle.std.specs.Ordering.{is_lt, ordering_reverse}
 use Rattle.std.specs.Cmp.{tied_itself}
 use Rattle.std.specs.List.{list_any, filter, AllByRecursion}
 use Rattle.std.specs.List.Sorted.{IsStrictlySortedBy}
 use Rattle.std.proofs.lemmas.List.Kept.{IsStrictlySortedBy-filter}
+use Rattle.std.proofs.Math.Bool.{and-true, and-false}
 use Rattle.osm_model.specs.Data.{VersionData}
 use Rattle.osm_model.specs.Order.{version_cmp, version_cmp_total}
 use Rattle.osm_model.specs.Sets.{to_list}
@@ -19,26 +20,14 @@ use Rattle.osm_merge.specs.Pass.{same_object}
 use Rattle.osm_merge.specs.Selected.{beats}
 use Rattle.osm_mirror.specs.run.Check.{new_objects, objects_after, object_count}
 
-and_true : (a : Bool) → (a && true) ≡ a
-and_true true = refl
-and_true false = refl
-
 -- ---- greater versions of an object
-and_false : (a : Bool) → (a && false) ≡ false
-and_false true = refl
-and_false false = refl
-
 -- no version is greater than itself, or than a version above it
 not_itself : (v : VersionData) → beats v v ≡ false
-not_itself v = ap (λ b. same_object v v && b) (ap is_lt (tied_itself version_cmp_total v)) ∙ and_false (same_object v v)
+not_itself v = ap (λ b. same_object v v && b) (ap is_lt (tied_itself version_cmp_total v)) ∙ and-false (same_object v v)
 
 not_below : (v w : VersionData) → version_cmp w v ≡ Less → beats v w ≡ false
 not_below v w less = ap (λ b. same_object v w && b) (ap is_lt (version_cmp_total.antisymm v w) ∙ ap (λ r. is_lt (ordering_reverse r)) less)
-    ∙ and_false (same_object v w)
-
-false_unless : (b : Bool) → (b ≡ true → ⊥) → b ≡ false
-false_unless true f = absurd (f refl)
-false_unless false f = refl
+    ∙ and-false (same_object v w)
 
 -- after a version of another object, an ascending list has no version of this object
 none_after : (v w : VersionData) → version_cmp v w ≡ Less → same_object v w ≡ false → (xs : List VersionData) →
@@ -46,7 +35,7 @@ none_after : (v w : VersionData) → version_cmp v w ≡ Less → same_object v 
 none_after v w less other [] h = refl
 none_after v w less other (x ∷ xs) h =
     let apart : same_object v x ≡ false =
-    false_unless (same_object v x) (λ t. false≢true (sym other ∙ objects_together v w x less h.0 t)) in
+    false_from_ne_true (same_object v x) (λ t. false≢true (sym other ∙ objects_together v w x less h.0 t)) in
     ap (λ b. (b && is_lt (version_cmp v x)) || list_any (beats v) xs) apart ∙ none_after v w less other xs h.1
 
 -- the newest version of an object in a list
@@ -57,7 +46,7 @@ newest xs v = not (list_any (beats v) xs)
 first_newest : (v w : VersionData) (xs : List VersionData) → version_cmp v w ≡ Less → AllByRecursion (λ x. version_cmp w x ≡ Less) xs →
     newest (v ∷ w ∷ xs) v ≡ not (same_object v w)
 first_newest v w xs less above =
-    let second : beats v w ≡ same_object v w = ap (λ b. same_object v w && b) (ap is_lt less) ∙ and_true (same_object v w) in
+    let second : beats v w ≡ same_object v w = ap (λ b. same_object v w && b) (ap is_lt less) ∙ and-true (same_object v w) in
     (λ i. not (not_itself v i || (second i || list_any (beats v) xs)))
     ∙ (elim (same_object v w) as (λ b. same_object v w ≡ b → not (b || list_any (beats v) xs) ≡ not b) [
       | true ↦ λ e. refl

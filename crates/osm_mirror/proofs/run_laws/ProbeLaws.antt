@@ -10,6 +10,8 @@ use Rattle.std.proofs.lemmas.Bool.Decides.{nat_tests}
 use Rattle.std.proofs.lemmas.Grind.{flat_map-append}
 use Rattle.std.proofs.lemmas.List.Sums.{sum_by_push, sum_by-append, sum_by-cons}
 use Rattle.std.proofs.lemmas.Nat.{mul-le, div-add-mod', row_fits}
+use Rattle.std.proofs.Math.Bool.{not-not}
+use Rattle.std.proofs.lemmas.Option.{MatchOption-at_some}
 use Rattle.osm_model.specs.declared.object.Object.{Object}
 use Rattle.osm_model.specs.Data.{VersionData}
 use Rattle.osm_model.specs.Pairwise.{Pairwise}
@@ -21,6 +23,7 @@ use Rattle.osm_files.specs.O5.{reset_byte}
 use Rattle.osm_files.specs.Opl.{OplFile}
 use Rattle.osm_files.specs.Units.{InOpl, start_of}
 use Rattle.osm_files.proofs.FirstLaws.{lines_read}
+use Rattle.osm_files.proofs.SinkLaws.{front_at}
 use Rattle.osm_mirror.specs.declared.run.bounds.Found.{Found}
 use Rattle.osm_mirror.specs.run.Bounds.{is_opl, opl_size, object_of_first, first_object, found_once, found_at, found_by, probe_count}
 use Rattle.osm_mirror.specs.run.Bounds.{found_in, total_weight}
@@ -32,7 +35,7 @@ use Rattle.osm_mirror.specs.run.Probes.{HaveBytes, IsTotal, FindsBy, FindsIn, Fi
 use Rattle.osm_mirror.specs.run.ShardExtent.{size_if_opl, IsOplSize}
 use Rattle.osm_mirror.specs.run.ShardRefusal.{IsFileRefusal}
 use Rattle.osm_mirror.proofs.run_laws.SplitLineLaws.{split_lines, split_versions}
-use Rattle.osm_mirror.proofs.run_laws.FilesJobLaws.{cut, known_given, take_more}
+use Rattle.osm_mirror.proofs.run_laws.FilesJobLaws.{cut}
 
 -- ---- the first byte of a file
 starts_if : (t : Bool) → start_if (not (not t)) ≡ start_if t
@@ -50,14 +53,10 @@ one_start true false e = cc
 one_start false true e = cc
 one_start false false e = refl
 
-not_not : (t : Bool) → not (not t) ≡ t
-not_not true = refl
-not_not false = refl
-
 -- the first byte shows whether a file is OPL
 pub opl_is : (bytes : List ℕ) (is_o5 : Bool) → start_of bytes ≡ start_if is_o5 → is_opl bytes ≡ not is_o5
 opl_is bytes is_o5 e =
-    sym (not_not (is_opl bytes)) ∙ ap not (one_start (not (is_opl bytes)) is_o5 (sym (starts bytes) ∙ e))
+    sym (not-not (is_opl bytes)) ∙ ap not (one_start (not (is_opl bytes)) is_o5 (sym (starts bytes) ∙ e))
 
 pub opl_starts : (bytes : List ℕ) → is_opl bytes ≡ true → start_of bytes ≡ InOpl
 opl_starts bytes e = starts bytes ∙ ap (λ t. start_if (not t)) e
@@ -240,7 +239,7 @@ module _ {F : Type 0} (known : F → Option (List ℕ)) where
       IsOplSize (known file) size → next ≡ total + unwrap_or size 0 → IsTotal known (files ++ file ∷ []) next
   total_more files file total next size h is sum all have =
       let d = divided has_bytes files file all have in
-      let one = size_is d.bytes size (known_given (known file) (λ b. size ≡ size_if_opl b) d.bytes d.last is) in
+      let one = size_is d.bytes size (MatchOption-at_some _ (λ b. size ≡ size_if_opl b) d.bytes d.last is) in
       let so_far = h d.before d.first in
       let push = sum_by_push opl_size d.before d.bytes in
       let whole : sum_by opl_size all ≡ sum_by opl_size (d.before ++ d.bytes ∷ []) = ap (sum_by opl_size) d.are in
@@ -253,7 +252,7 @@ module _ {F : Type 0} (known : F → Option (List ℕ)) where
   total_long files number total file size low is few h sized long all have =
       let front : List F = take (number + 1) files in
       let so_far : IsTotal known front (total + unwrap_or size 0) =
-      subst (λ (fs : List F). IsTotal known fs (total + unwrap_or size 0)) (sym (take_more files number file low is))
+      subst (λ (fs : List F). IsTotal known fs (total + unwrap_or size 0)) (sym (front_at files number file low is))
       (total_more (take number files) file total (total + unwrap_or size 0) size h sized refl) in
       let c = cut has_bytes front (drop (number + 1) files) all
       (subst (λ (fs : List F). HaveBytes known fs all) (sym (take-append-drop (number + 1) files)) have) in
@@ -277,7 +276,7 @@ module _ {F : Type 0} (known : F → Option (List ℕ)) where
       let d = divided has_bytes files file all have in
       let c = cut HoldsSorted d.before (d.bytes ∷ []) held (subst (λ (xs : List (List ℕ)). Pairwise HoldsSorted xs held) d.are holds) in
       let last = last_held step d.bytes c.after c.second in
-      let here = known_given (known file) (λ b. (s : VersionSet) → HoldsSorted b s → after ≡ found ++ found_in step b) d.bytes d.last one
+      let here = MatchOption-at_some _ (λ b. (s : VersionSet) → HoldsSorted b s → after ≡ found ++ found_in step b) d.bytes d.last one
       last.0 last.1 in
       here ∙ (λ i. h d.before c.before d.first c.first i ++ sym (append-nil (found_in step d.bytes)) i)
       ∙ sym (flat_map-append (found_in step) d.before (d.bytes ∷ [])) ∙ ap (found_in_all step) (sym d.are)

@@ -1,10 +1,10 @@
 -- The extent of a sorted OPL file within a span holds the slice of what the file holds.
-use Rattle.std.proofs.Common.{◌≡◌, ◌⊎◌, inl, inr, ⊎_elim, ℕ, zero, suc, ◌-◌, ◌≤◌, Bool, true, false, not, ◌&&◌, ◌||◌, cond}
+use Rattle.std.proofs.Common.{◌≡◌, ◌⊎◌, inl, inr, ⊎_elim, ℕ, zero, suc, ◌-◌, ◌≤◌, Bool, true, false, ◌&&◌, ◌||◌, cond}
 use Rattle.std.proofs.Common.{List, [], ◌∷◌, ◌++◌, length, take, drop, Option, Some, None, refl, sym, ap, ◌∙◌, subst, arith, append-nil}
 use Rattle.std.specs.Cmp.{Equal-is}
 use Rattle.std.specs.Ordering.{is_lt, eq_by_cmp}
 use Rattle.std.specs.List.{list_any, filter, AllByRecursion}
-use Rattle.std.proofs.lemmas.Bool.{false≢true, cases_lt}
+use Rattle.std.proofs.lemmas.Bool.{false≢true, cases_lt, not-true}
 use Rattle.std.proofs.lemmas.List.{length-take, length-drop, nil_from_length, append_cancel_right}
 use Rattle.std.proofs.lemmas.List.Elements.{filter-append}
 use Rattle.std.proofs.lemmas.List.Kept.{IsSortedBy-filter}
@@ -12,7 +12,7 @@ use Rattle.std.proofs.lemmas.List.Sorted.{ranks_by}
 use Rattle.osm_model.specs.Data.{VersionData}
 use Rattle.osm_model.specs.Order.{key_cmp, key_cmp_total, version_cmp, version_cmp_total}
 use Rattle.osm_model.specs.VersionSet.{VersionSet}
-use Rattle.osm_model.specs.Sets.{contains, from_list}
+use Rattle.osm_model.specs.Sets.{from_list}
 use Rattle.osm_model.proofs.SetLaws.{contains-from_list}
 use Rattle.osm_model.proofs.VersionLaws.{version_cmp-IsAntisymmetric}
 use Rattle.osm_files.specs.Held.{HoldsSorted, IsFileOf}
@@ -24,27 +24,16 @@ use Rattle.osm_files.proofs.LineStarts.{end_begins}
 use Rattle.osm_merge.specs.declared.span.Span.{Span}
 use Rattle.osm_merge.specs.Members.{retain}
 use Rattle.std.specs.List.Sorted.{IsSorted}
+use Rattle.std.proofs.Math.Bool.{and-false}
 use Rattle.osm_model.specs.declared.object.Object.{Object}
-use Rattle.osm_merge.specs.Slice.{slice_of, is_ascending, is_ascending_between, is_within, is_under, reaches, IsWithin}
+use Rattle.osm_merge.specs.Slice.{slice_of, is_ascending, is_ascending_between, is_within, is_under, reaches}
 use Rattle.osm_merge.proofs.SliceLaws.{kept_in}
+use Rattle.osm_merge.proofs.SelectedLaws.{pass_all}
 use Rattle.osm_files.proofs.SpellLaws.{equal_sets as equal}
 use Rattle.osm_mirror.specs.run.CutOffset.{IsUnderBefore}
 use Rattle.osm_mirror.specs.run.ShardExtent.{BeginsAt, EndsAt, IsPartWithin}
 use Rattle.osm_mirror.proofs.run_laws.CutLaws.{cuts_rise}
 use Rattle.osm_mirror.proofs.run_laws.SplitLineLaws.{SplitLines, split_versions, part_ends, part_whole}
-
--- ---- booleans
-and_true : (b : Bool) → b && true ≡ b
-and_true true = refl
-and_true false = refl
-
-and_false : (b : Bool) → b && false ≡ false
-and_false true = refl
-and_false false = refl
-
-and_again : (a b : Bool) → (a && b) && b ≡ a && b
-and_again a true = and_true (a && true)
-and_again a false = and_false (a && false) ∙ sym (and_false a)
 
 -- ---- the versions of a list that pass
 module _ (p q : VersionData → Bool) (same : (v : VersionData) → p v ≡ q v) (v : VersionData) where
@@ -61,7 +50,7 @@ module _ (p q : VersionData → Bool) (same : (v : VersionData) → p v ≡ q v)
         | true ↦ λ e. (elim (q x) as (λ t. q x ≡ t → p v ≡ list_any is (cond t (x ∷ filter q versions) (filter q versions))) [
           | true ↦ λ k. sym (passes x e) ∙ k ∙ ap (λ t. t || list_any is (filter q versions)) (sym e)
           | false ↦ λ k. (let none : p v ≡ false = sym (passes x e) ∙ k in
-              none ∙ sym (and_false (list_any is versions)) ∙ ap (λ t. list_any is versions && t) (sym none) ∙ rest)
+              none ∙ sym (and-false (list_any is versions)) ∙ ap (λ t. list_any is versions && t) (sym none) ∙ rest)
         ] refl)
         | false ↦ λ e. rest ∙ (elim (q x) as (λ t. list_any is (filter q versions) ≡ list_any is (cond t (x ∷ filter q versions)
             (filter q versions))) [
@@ -82,12 +71,6 @@ retained p q same versions = equal _ _ (λ v.
     ∙ ap (λ t. t && p v) (contains-from_list version_cmp_total versions v)
     ∙ any_passes p q same v versions
     ∙ sym (contains-from_list version_cmp_total (filter q versions) v))
-
-pub within_itself : (span : Span) (held : VersionSet) → IsWithin span (slice_of span.from span.to held)
-within_itself span held =
-    let p : VersionData → Bool = is_within span.from span.to in
-    equal _ _ (λ v.
-    kept_in (retain held p) p v ∙ ap (λ t. t && p v) (kept_in held p v) ∙ and_again (contains held v) (p v) ∙ sym (kept_in held p v))
 
 front_starts : (n : ℕ) (bytes : List ℕ) → start_of bytes ≡ InOpl → start_of (take n bytes) ≡ InOpl
 front_starts zero bytes e = refl
@@ -127,12 +110,8 @@ passing_both p q (v ∷ versions) =
             | false ↦ more
           ])
       | false ↦ more ∙ ap (λ t. cond t (v ∷ filter (λ w. p w && q w) versions) (filter (λ w. p w && q w) versions))
-          (sym (and_false (p v)))
+          (sym (and-false (p v)))
     ]
-
-all_kept : (versions : List VersionData) → filter (λ v. true) versions ≡ versions
-all_kept [] = refl
-all_kept (v ∷ versions) = ap (λ vs. v ∷ vs) (all_kept versions)
 
 -- ---- where a file is cut
 -- a file isn't cut after its end
@@ -167,7 +146,7 @@ module _ (all : List ℕ) (held : VersionSet) (h : HoldsSorted all held) (opl : 
   from_at : (from : Option Object) (start : ℕ) → BeginsAt all from start → From from start
   from_at None start is = record {
     rest = subst (λ n. OplFile (drop n all) (filter (reaches None) h.versions)) (sym is)
-        (subst (OplFile all) (sym (all_kept h.versions)) lines);
+        (subst (OplFile all) (sym (pass_all h.versions)) lines);
     starts = ap (λ n. start_of (drop n all)) is ∙ opl;
   }
   from_at (Some bound) start at = record { rest = (at.0 h.versions lines h.sorted).1; starts = at.1.start }
@@ -187,7 +166,7 @@ module _ (all : List ℕ) (held : VersionSet) (h : HoldsSorted all held) (opl : 
       record {
         later = [];
         rest = subst (λ (b : List ℕ). OplFile b []) (sym none) tt;
-        whole = sym (append-nil (filter (is_under None) h.versions) ∙ all_kept h.versions);
+        whole = sym (append-nil (filter (is_under None) h.versions) ∙ pass_all h.versions);
         ends = λ start up. inr (inl none);
       }
   to_at (Some bound) end at =
@@ -236,17 +215,13 @@ part_holds span all start end held opl h within =
     (omega (arith, length-take (end - start) (drop start all), length-drop start all))
     (middle all held h opl span.from span.to start end within.ascends f t)
 
-is_not : (b : Bool) → not b ≡ true → b ≡ false
-is_not true h = absurd (false≢true h)
-is_not false h = refl
-
 rises_between : (from to : Option Object) (all : List ℕ) (start end : ℕ) (versions : List VersionData) → OplFile all versions →
     IsSorted key_cmp versions → is_ascending_between from to ≡ true → BeginsAt all from start → EndsAt all to end → start ≤ end
 rises_between None to all start end versions file sorted rises begins ends = omega (arith, begins)
 rises_between (Some a) None all start end versions file sorted rises begins ends =
     let within = cut_within all a start (begins.0 versions file sorted).2 in omega (arith, within, ends)
 rises_between (Some a) (Some b) all start end versions file sorted rises begins ends =
-    cuts_rise a b (is_not _ rises) all start end versions file sorted begins.0 ends.0 ends.1.line
+    cuts_rise a b (not-true _ rises) all start end versions file sorted begins.0 ends.0 ends.1.line
 
 -- The extent of a sorted OPL file within a span doesn't end before it begins.
 pub part_rises : (span : Span) (all : List ℕ) (start end : ℕ) (held : VersionSet) → is_ascending span ≡ true → start_of all ≡ InOpl →

@@ -1,4 +1,4 @@
--- The runs for all shards of an output write what one run writes.
+-- The jobs for all shards of an output write what one job writes.
 use Rattle.std.proofs.Common.{◌≡◌, ◌⊎◌, inl, inr, ⊎_elim, ℕ, zero, suc, ◌+◌, ◌-◌, ◌≤◌, ◌<◌, ◌^◌, true, List, [], ◌∷◌, ◌++◌, length, map}
 use Rattle.std.proofs.Common.{drop, append-nil, slice_get, IfSome}
 use Rattle.std.proofs.Common.{Option, Some, None, refl, sym, ap, ◌∙◌, subst, arith, length-drop, length-append}
@@ -90,8 +90,8 @@ module _ (selection : Selection) (held : List VersionSet) where
         ≡ concat (map (λ span. text (Some span)) (drop (suc index) whole)) =
         (let e : suc index + 1 ≡ suc (suc index) = omega arith in
         ap (λ n. concat (shard_outputs selection count all held most n)) e ∙ outputs_are most (suc index) (omega (arith, few))) in
-        let place : suc index - 1 ≡ index = omega arith in
-        ap (λ k. text (span_at whole k) ++ concat (shard_outputs selection count all held most (suc index + 1))) place
+        let counted : suc index - 1 ≡ index = omega arith in
+        ap (λ k. text (span_at whole k) ++ concat (shard_outputs selection count all held most (suc index + 1))) counted
         ∙ ⊎_elim
         (λ (none, here, after).
         (λ i. text (none i) ++ rest i) ∙ (λ i. nothing_written selection i ++ concat (map (λ span. text (Some span)) (after i)))
@@ -130,7 +130,7 @@ shard_is job all held span is change counts done = record {
 }
 
 -- ---- the first fault of a file
--- a run over a whole file whose source is refused
+-- a job over a whole file whose source is refused
 whole_fault : (Fails : Type 0) (known : Option (List ℕ)) (size : ℕ) (c : InputRest) (first : Fault) (r : Fault)
     → size < 2 ^ 64 → IfSome known (λ all. size ≡ length all) → RunCanGive Fails known whole_run size c → StopsOpening 0 c first
     → r.place ≡ first.place → r.reason ≡ first.reason → (first.reason ≡ Memory → ⊥) → IsFaultOfFile Fails known r

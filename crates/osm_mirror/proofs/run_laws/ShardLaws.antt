@@ -1,4 +1,4 @@
--- Parts of a file between offsets, and the runs over the extents of several files.
+-- Parts of a file between offsets, and the jobs over the extents of several files.
 use Rattle.std.proofs.Common.{◌≡◌, ◌⊎◌, ⊎_elim, ℕ, ◌-◌, List, [], ◌∷◌, ◌++◌, take, drop, map}
 use Rattle.std.proofs.Common.{refl, sym, ap, ◌∙◌, subst, Option, Some, None, append-nil, append_assoc}
 use Rattle.osm_model.specs.declared.object.Object.{Object}
@@ -22,7 +22,7 @@ use Rattle.osm_mirror.proofs.run_laws.SlicedFileLaws.{slices_write_the_job}
 use Rattle.osm_mirror.proofs.run_laws.SortedRunLaws.{after_line}
 use Rattle.osm_files.proofs.JoinLaws.{starts_as}
 
--- ---- runs over the extents of several files
+-- ---- jobs over the extents of several files
 -- the extents of all files within a span are the slices of the files' sets
 first_slices : (sets : List VersionSet) (span : Span) (others : List Span) (extents : List (List VersionSet)) →
     Pairwise (λ held slices. map (λ s. slice_of s.from s.to held) (span ∷ others) ≡ slices) sets extents →
@@ -44,7 +44,7 @@ runs_are sets [] extents h = tt
 runs_are sets (span ∷ others) extents h = let first = first_slices sets span others extents h in
     (first.0, runs_are sets others (map other_sets extents) first.1)
 
--- The extents of a run, one after another, are what the run writes.
+-- The extents of a job, one after another, are what the job writes.
 pub shards_write_the_job : ShardsWriteTheJob
 shards_write_the_job selection bounds sets extents up h =
     slices_write_the_job selection bounds sets (by_span (spans bounds) extents) up (runs_are sets (spans bounds) extents h)

@@ -132,7 +132,7 @@ module _ (count : ℕ) (found : List Found) where
             ∙ ap (λ b. span_from b (upper (suc most - 1) (number + 1))) (sym e ∙ ap bound same)
       ] refl
   later_span (suc index) (suc most) number from low =
-      let place : number + 1 + index ≡ number + suc index = omega arith in
+      let counted : number + 1 + index ≡ number + suc index = omega arith in
       let next : number + 1 + suc index ≡ number + suc (suc index) = omega arith in
       elim (bound number) as (λ o. bound number ≡ o →
       span_at (spans_from from (bound_then o (bounds_from most (number + 1) count found))) (suc (suc index))
@@ -141,7 +141,7 @@ module _ (count : ℕ) (found : List Found) where
             (suc index) number e))
         | Some x ↦ λ e. later_span index most (number + 1) (Some x) (omega (arith, low))
             ∙ (let left : most - suc index ≡ suc most - suc (suc index) = omega arith in
-            λ i. span_from (bound (place i)) (upper (left i) (next i)))
+            λ i. span_from (bound (counted i)) (upper (left i) (next i)))
       ] refl
 
   after_is : (number : ℕ) → upper (count - number) number ≡ bound_after number count found
@@ -164,10 +164,10 @@ module _ (count : ℕ) (found : List Found) where
   span_is (suc (suc index)) some within =
       ap (span_at (spans (bounds_from (count - 1) 1 count found))) (omega arith)
       ∙ later_span index (count - 1) 1 None (omega (arith, within))
-      ∙ (let place : 1 + index ≡ suc index = omega arith in
+      ∙ (let counted : 1 + index ≡ suc index = omega arith in
       let next : 1 + suc index ≡ suc (suc index) = omega arith in
       let left : count - 1 - suc index ≡ count - suc (suc index) = omega arith in
-      λ i. span_from (bound (place i)) (upper (left i) (next i)))
+      λ i. span_from (bound (counted i)) (upper (left i) (next i)))
       ∙ ap (span_from (bound (suc index))) (after_is (suc (suc index)))
       ∙ (let before : suc index ≡ suc (suc index) - 1 = omega arith in
       ap (λ n. span_from (bound n) (bound_after (suc (suc index)) count found)) before)

@@ -1,8 +1,8 @@
 -- A file that is cut at objects into sorted files is sorted.
-use Rattle.std.proofs.Common.{◌≡◌, ⊎_elim, ℕ, Bool, true, false, not, ◌||◌, List, [], ◌∷◌, ◌++◌, map, refl, sym, ap, ◌∙◌, Option, Some, ◌<◌}
+use Rattle.std.proofs.Common.{◌≡◌, ⊎_elim, ℕ, Bool, true, false, ◌||◌, List, [], ◌∷◌, ◌++◌, map, refl, sym, ap, ◌∙◌, Option, Some, ◌<◌}
 use Rattle.std.proofs.Common.{◌^◌, length}
 use Rattle.std.proofs.Common.{None, append-nil}
-use Rattle.std.proofs.lemmas.Bool.{false≢true}
+use Rattle.std.proofs.lemmas.Bool.{false≢true, or_right, true_from_ne_false, not-true}
 use Rattle.std.specs.declared.cmp.Ordering.{Ordering}
 use Rattle.std.specs.declared.cmp.Ordering.TheVariants.{Less, Equal, Greater}
 use Rattle.std.specs.Ordering.{ordering_then, eq_by_cmp, is_lt, is_gt, is_eq}
@@ -33,6 +33,7 @@ use Rattle.osm_mirror.specs.run.Job.{union_of}
 use Rattle.osm_files.specs.declared.format.Format.TheVariants.{Opl}
 use Rattle.osm_files.specs.SortedRun.{IsSplitInto}
 use Rattle.osm_files.specs.Spell.{spell}
+use Rattle.osm_files.proofs.GroupLaws.{all_append}
 use Rattle.osm_merge.specs.declared.span.Span.{Span}
 use Rattle.osm_merge.specs.declared.selection.Selection.{Selection}
 use Rattle.osm_merge.specs.Selected.{selection_of}
@@ -40,8 +41,6 @@ use Rattle.osm_mirror.specs.run.Slices.{SlicesHoldTheFile, AreSlicesWithin, Slic
 use Rattle.osm_mirror.proofs.run_laws.SourceLaws.{members, union_given_is}
 use Rattle.osm_mirror.proofs.fleet_laws.MergesLaws.{in_union_of}
 use Rattle.osm_mirror.proofs.run_laws.SortedRunLaws.{after_line, at_reset}
-use Rattle.osm_merge.proofs.SnapLaws.{or_right}
-use Rattle.osm_merge.proofs.Settling.{all_append}
 use Rattle.osm_merge.proofs.PassLaws.{map_all}
 
 -- ---- keys
@@ -50,20 +49,12 @@ above_first Less s e = absurd (false≢true e)
 above_first Equal s e = absurd (false≢true e)
 above_first Greater s e = refl
 
-not_false : (b : Bool) → (b ≡ false → ⊥) → b ≡ true
-not_false true f = refl
-not_false false f = absurd (f refl)
-
-is_not : (b : Bool) → not b ≡ true → b ≡ false
-is_not true h = absurd (false≢true h)
-is_not false h = refl
-
 -- a version that reaches a bound has no key below that of a version under the bound
 over_bound : (bound : Object) (v w : VersionData) → is_under (Some bound) v ≡ true → reaches (Some bound) w ≡ true →
     is_lt (key_cmp w v) ≡ false
 over_bound bound v w under over =
-    above_first (object_cmp w v) _ (not_false _ (λ none.
-    false≢true (sym (not_below (object_of v) (object_of w) bound (below_is (object_of v) (object_of w) ∙ none) (is_not _ over)) ∙ under)))
+    above_first (object_cmp w v) _ (true_from_ne_false _ (λ none.
+    false≢true (sym (not_below (object_of v) (object_of w) bound (below_is (object_of v) (object_of w) ∙ none) (not-true _ over)) ∙ under)))
 
 -- ---- lists
 
@@ -191,7 +182,7 @@ pub slices_hold_the_file : SlicesHoldTheFile
 slices_hold_the_file bounds bytes pieces held short up cut holds within =
     slices_of_all bounds bytes held short up within (spelled_from None bounds bytes pieces held (rise bounds up) cut holds within)
 
--- the outputs of the runs, in sequence
+-- the outputs of the jobs, in sequence
 module _ (selection : Selection) (sets : List VersionSet) where
   runs_write : (parts : List Span) (runs : List (List VersionSet)) → Pairwise (AreSlicesWithin sets) parts runs
       → concat (map (λ span. spell Opl (selection_of selection (union_all (map (slice_of span.from span.to) sets)))) parts)
@@ -203,7 +194,7 @@ module _ (selection : Selection) (sets : List VersionSet) where
       spell Opl (selection_of selection (sym (ap union_of h.0 ∙ union_is (map (slice_of span.from span.to) sets)) i))
       ++ runs_write parts runs h.1 i
 
--- Runs over the slices write what one run over the files writes.
+-- Jobs over the slices write what one job over the files writes.
 pub slices_write_the_job : SlicesWriteTheJob
 slices_write_the_job selection bounds sets runs up sliced =
     ap (λ s. spell Opl (selection_of selection s)) (union_is sets) ∙ slices_write_the_whole selection bounds sets up

@@ -1,17 +1,18 @@
 -- The sources of files give the members of the files' sets, and the union of what sources give is the union of the sets.
-use Rattle.std.proofs.Common.{◌≡◌, ◌⊎◌, inl, inr, ⊎_elim, ℕ, zero, suc, ◌+◌, ◌<◌, Bool, true, false, not, ◌&&◌, ◌||◌, List, [], ◌∷◌, ◌++◌}
+use Rattle.std.proofs.Common.{◌≡◌, ◌⊎◌, inl, inr, ⊎_elim, ℕ, suc, ◌+◌, ◌<◌, Bool, true, false, not, ◌&&◌, ◌||◌, List, [], ◌∷◌, ◌++◌}
 use Rattle.std.proofs.Common.{fold, length, map, if◌then◌else◌}
-use Rattle.std.proofs.Common.{take, drop, get_or, refl, sym, ap, ◌∙◌, subst, arith, Option, Some, None, is_some, option_map}
+use Rattle.std.proofs.Common.{take, drop, get_or, refl, sym, ap, ◌∙◌, subst, arith, Option, Some, None, option_map}
 use Rattle.std.proofs.Common.{sum_by}
 use Rattle.std.specs.Ordering.{eq_by_cmp}
-use Rattle.std.specs.FinMap.{get-empty}
 use Rattle.std.specs.List.{All, filter, list_any}
 use Rattle.std.specs.List.Sorted.{IsStrictlySortedBy}
-use Rattle.std.proofs.lemmas.List.{take-append-drop}
+use Rattle.std.proofs.lemmas.List.{take-append-drop, map-id, drop_more}
 use Rattle.std.proofs.lemmas.List.Elements.{All-cons, All-nil, All-head, All-tail}
 use Rattle.std.proofs.lemmas.List.Concat.{length-flat_map}
 use Rattle.std.proofs.lemmas.List.Folds.{list_any-append}
 use Rattle.std.proofs.lemmas.List.Sums.{sum_by-cons}
+use Rattle.std.proofs.Math.Bool.{or-false, or_assoc}
+use Rattle.std.proofs.lemmas.Bool.{or_right}
 use Rattle.osm_model.specs.Data.{VersionData}
 use Rattle.osm_model.specs.Order.{version_cmp, version_cmp_total}
 use Rattle.osm_model.specs.VersionSet.{VersionSet}
@@ -36,10 +37,9 @@ use Rattle.osm_files.specs.Stream.{end_whole, front}
 use Rattle.osm_files.specs.Verdict.{file_units, versions_of}
 use Rattle.osm_files.proofs.FaultyLaws.{broken_is_refused}
 use Rattle.osm_files.proofs.FileLaws.{files_are_read}
-use Rattle.osm_files.proofs.HoldLaws.{source_gives_held, whole_source_is_held}
+use Rattle.osm_files.proofs.HoldLaws.{source_gives_held, whole_source_is_held, set_listed}
 use Rattle.osm_files.proofs.LoadLaws.{whole_units, gives_file}
 use Rattle.osm_files.proofs.RiseLaws.{source_rises, source_begins_known}
-use Rattle.osm_files.proofs.SpellLaws.{listed_members}
 use Rattle.osm_merge.specs.declared.span.Span.{Span}
 use Rattle.osm_merge.specs.declared.within.Outside.{Outside}
 use Rattle.osm_merge.specs.declared.within.Outside.TheVariants.{Dropped, Refused}
@@ -52,7 +52,7 @@ use Rattle.osm_merge.specs.Union as union
 use Rattle.osm_merge.specs.Within.{given_within, within_span, up_to, from_bound, dropped_outside, WithinCanGive, ascends_in}
 use Rattle.osm_merge.proofs.GiveLaws.{give_one}
 use Rattle.osm_merge.proofs.SliceLaws.{kept_in}
-use Rattle.osm_files.proofs.SpellLaws.{equal_sets as equal}
+use Rattle.osm_files.proofs.SpellLaws.{equal_sets as equal, in_none}
 use Rattle.osm_merge.proofs.SliceSources.{dropped_is_slice, dropped_of_whole, dropped_to_the_end, refused_is_inside, inside_is_given}
 use Rattle.osm_mirror.specs.declared.run.input.InputFile.{InputFile}
 use Rattle.osm_mirror.specs.declared.run.input.ReadAs.{ReadAs}
@@ -66,27 +66,19 @@ use Rattle.osm_mirror.specs.run.SourceRest.{SourceCanGive, source_one, source_po
 use Rattle.osm_mirror.specs.run.Given.{GivesFile, GivesAs, IsFileAs, refusal, whole_or_refused, held_source, source_of, sources}
 use Rattle.osm_mirror.specs.run.Given.{InputFileCanGive}
 use Rattle.osm_mirror.specs.run.Given.{file_as, one_of_file, IsRead, IsOpened, AreOpened, CannotBeRead, IsUnread, IsUnopened}
-use Rattle.osm_files.proofs.SpellLaws.{or_grouped as or_assoc}
-use Rattle.osm_merge.proofs.SnapLaws.{or_right as or_more}
 use Rattle.osm_merge.proofs.SnapLaws.{and_twice as both}
 use Rattle.osm_merge.proofs.UnionLaws.{nothing_appended as at_first}
+use Rattle.osm_merge.proofs.AscendingLaws.{among}
 
 -- ---- the union
-abbrev among : VersionData → List VersionData → Bool
-among v versions = list_any (eq_by_cmp version_cmp v) versions
-
 -- the set of the versions that a source gives
 abbrev pub members : source.VersionsToCome → VersionSet
 members s = from_list {R = version_cmp} s.list
 
-or_false : (b : Bool) → b ≡ (b || false)
-or_false true = refl
-or_false false = refl
-
 -- the members of a union of sets
 has_union : (before : VersionSet) (all : List source.VersionsToCome) (v : VersionData)
     → contains (fold sets.union before (map members all)) v ≡ (contains before v || among v (union.versions_of all))
-has_union before [] v = or_false (contains before v)
+has_union before [] v = sym (or-false (contains before v))
 has_union before (s ∷ all) v =
     has_union (sets.union before (members s)) all v
     ∙ ap (λ b. b || among v (union.versions_of all))
@@ -101,7 +93,7 @@ unfolding union.union_given
 union_given_is all =
     same_set version_cmp_total version_cmp-IsAntisymmetric (from_list (union.versions_of all)) (union_of (map members all))
     (λ v. contains-from_list version_cmp_total (union.versions_of all) v ∙ sym
-    (has_union sets.empty all v ∙ ap (λ b. b || among v (union.versions_of all)) (ap is_some (get-empty {X = Unit {0}} version_cmp v))))
+    (has_union sets.empty all v ∙ ap (λ b. b || among v (union.versions_of all)) (in_none v)))
 
 -- ---- one input
 pub source_sorted : (number : ℕ) (c : InputRest) (held : VersionSet) → c.broken ≡ false → HoldsSorted c.bytes held
@@ -173,7 +165,7 @@ file_gives number c e =
     let list : (held_source number c).list ≡ to_list (from_list {R = version_cmp} versions) =
     ap (λ s. s.list) (held_is number c ∙ ap (λ r. whole_or_refused r versions) none) in
     let same : from_list {R = version_cmp} versions ≡ members (held_source number c) =
-    listed_members (from_list versions) ∙ ap (λ vs. from_list {R = version_cmp} vs) (sym list) in
+    sym (set_listed (from_list versions)) ∙ ap (λ vs. from_list {R = version_cmp} vs) (sym list) in
     subst (GivesFile c) same (record { unbroken = given.0; file = given.1 })
 
 read_rises : (r : Option Fault) (versions : List VersionData) → Ascends (whole_or_refused r versions)
@@ -187,10 +179,10 @@ slice_of_file : (number : ℕ) (span : Span) (c : InputRest) (held : VersionSet)
 slice_of_file number span c held file =
     dropped_is_slice span (sorted_source number c) (source_rises number c)
     ∙ ap (λ (s : source.VersionsToCome). slice_of span.from span.to (members s)) (source_sorted number c held file.unbroken file.file)
-    ∙ ap (slice_of span.from span.to) (sym (listed_members held))
+    ∙ ap (slice_of span.from span.to) (set_listed held)
 
 -- a slice of a set is within its span
-slices_are_within : (span : Span) (s : VersionSet) → IsWithin span (slice_of span.from span.to s)
+pub slices_are_within : (span : Span) (s : VersionSet) → IsWithin span (slice_of span.from span.to s)
 slices_are_within span s =
     let p : VersionData → Bool = is_within span.from span.to in
     let part : VersionSet = slice_of span.from span.to s in
@@ -206,7 +198,7 @@ any_of_filtered p q [] h = h
 any_of_filtered p q (v ∷ vs) h =
     elim (p v) as (λ b. list_any q (if b then v ∷ filter p vs else filter p vs) ≡ true → (q v || list_any q vs) ≡ true) [
       | true ↦ or_same (q v) (list_any q (filter p vs)) (list_any q vs) (any_of_filtered p q vs)
-      | false ↦ λ k. or_more (q v) (list_any q vs) (any_of_filtered p q vs k)
+      | false ↦ λ k. or_right (q v) (list_any q vs) (any_of_filtered p q vs k)
     ] h
 
 -- a rest that isn't refused before the first version that fails the test has no refusal, or a version that fails it
@@ -256,7 +248,7 @@ abbrev Yields : source.VersionsToCome → VersionSet → Type 0
 Yields given held = (given.refusal ≡ None) × (members given ≡ held)
 
 yields_set : (given : source.VersionsToCome) (held : VersionSet) → given ≡ set_given held → Yields given held
-yields_set given held is = (ap (λ (s : source.VersionsToCome). s.refusal) is, ap members is ∙ sym (listed_members held))
+yields_set given held is = (ap (λ (s : source.VersionsToCome). s.refusal) is, ap members is ∙ set_listed held)
 
 -- the source of a file that can be read in its way
 pub as_given : (number : ℕ) (input : ReadAs × InputRest) (held : VersionSet) → IsFileAs input held → Yields (source_of number input) held
@@ -326,16 +318,6 @@ as_all_given number (input ∷ inputs) (s ∷ held) h =
       (λ i. one.1 i ∷ others.0 i),
       All-cons (λ t. t.refusal ≡ None) (source_of number input) (sources (number + 1) inputs) one.0 others.1,
     )
-
--- ---- lists
-pub map_itself : {A : Type 0} (xs : List A) → map (λ x. x) xs ≡ xs
-map_itself [] = refl
-map_itself (x ∷ xs) = ap (λ ys. x ∷ ys) (map_itself xs)
-
-drop_at : {A : Type 0} (xs : List A) (k : ℕ) (d : A) → k < length xs → get_or xs k d ∷ drop (k + 1) xs ≡ drop k xs
-drop_at [] k d low = absurd (omega (arith, low))
-drop_at (x ∷ xs) zero d low = refl
-drop_at (x ∷ xs) (suc k) d low = let e : suc k + 1 ≡ suc (k + 1) = omega arith in rw e (drop_at xs k d (omega (arith, low)))
 
 -- ---- inputs that can't be read
 can_be_read : (number : ℕ) (input : ReadAs × InputRest) (held : VersionSet) (fault : Fault) → IsFileAs input held
@@ -463,14 +445,14 @@ module _ {R : Type 0} (can : R → InputRest → Type 0) where
         → GivesOne (InputFileCanGive can y) (λ input. IsUnopened n (input ∷ []) fault)
         → SomeInputsGive (InputFileCanGive can) xs (λ all. IsUnopened 0 all fault)
     stop_unread ys xs y items n fault all count so_far turn h =
-        let place : n ≡ 0 + length ys = omega (arith, count, opened_many 0 ys items all) in
+        let counted : n ≡ 0 + length ys = omega (arith, count, opened_many 0 ys items all) in
         let k : ℕ = length ys in
         let front : take k xs ++ y ∷ drop (k + 1) xs ≡ xs =
-        ap (λ t. take k xs ++ t) (ap (λ f. f ∷ drop (k + 1) xs) turn.1) ∙ ap (λ t. take k xs ++ t) (drop_at xs k y turn.0)
+        ap (λ t. take k xs ++ t) (ap (λ f. f ∷ drop (k + 1) xs) turn.1) ∙ ap (λ t. take k xs ++ t) (sym (drop_more xs k y turn.0))
         ∙ take-append-drop k xs in
-        let is : ys ++ y ∷ drop (k + 1) xs ≡ xs = ap (λ t. t ++ y ∷ drop (k + 1) xs) (sym (map_itself ys) ∙ so_far) ∙ front in
+        let is : ys ++ y ∷ drop (k + 1) xs ≡ xs = ap (λ t. t ++ y ∷ drop (k + 1) xs) (sym (map-id ys) ∙ so_far) ∙ front in
         subst (λ (fs : List (InputFile R)). SomeInputsGive (InputFileCanGive can) fs (λ all. IsUnopened 0 all fault)) is
-        (stops_after 0 ys items y (drop (k + 1) xs) fault all (h.0, h.1, subst (λ (m : ℕ). IsUnopened m (h.0 ∷ []) fault) place h.2))
+        (stops_after 0 ys items y (drop (k + 1) xs) fault all (h.0, h.1, subst (λ (m : ℕ). IsUnopened m (h.0 ∷ []) fault) counted h.2))
 
     -- memory ran out after files that were opened
     pub no_memory : (files : List (InputFile R)) (fault : Fault) → fault ≡ memory_fault
@@ -481,11 +463,11 @@ module _ {R : Type 0} (can : R → InputRest → Type 0) where
   pub push_opened : (ys : List (InputFile R)) (y : InputFile R) (items after : List (InputSource R)) (x : InputSource R) (n : ℕ)
       → AreOpened can 0 ys items → after ≡ items ++ x ∷ [] → n ≡ length items → IsOpened can n y x → AreOpened can 0 (ys ++ y ∷ []) after
   push_opened ys y items after x n all pushed count one =
-      let place : n ≡ 0 + length ys = omega (arith, count, opened_many 0 ys items all) in
+      let counted : n ≡ 0 + length ys = omega (arith, count, opened_many 0 ys items all) in
       subst (λ (l : List (InputSource R)). AreOpened can 0 (ys ++ y ∷ []) l) (sym pushed)
-      (opened_more 0 ys items y x all (subst (λ (k : ℕ). IsOpened can k y x) place one))
+      (opened_more 0 ys items y x all (subst (λ (k : ℕ). IsOpened can k y x) counted one))
 
   -- Once all files were opened, each source is one of them.
   pub opened_all : (ys xs : List (InputFile R)) (items : List (InputSource R)) → AreOpened can 0 ys items → map (λ y. y) ys ≡ xs
       → AreOpened can 0 xs items
-  opened_all ys xs items all is = subst (λ (l : List (InputFile R)). AreOpened can 0 l items) (sym (map_itself ys) ∙ is) all
+  opened_all ys xs items all is = subst (λ (l : List (InputFile R)). AreOpened can 0 l items) (sym (map-id ys) ∙ is) all

@@ -1,8 +1,9 @@
--- Runs for a span of files: what they write, and why they are refused.
+-- Jobs for a span of files: what they write, and why they are refused.
 use Rattle.std.proofs.Common.{◌≡◌, ◌⊎◌, inl, inr, ⊎_elim, ℕ, zero, suc, ◌+◌, ◌≤◌, ◌<◌, ◌^◌, Bool, List, [], ◌∷◌, length, map}
 use Rattle.std.proofs.Common.{Option, Some, None, IfSome, slice_get, refl, sym, ap, ◌∙◌, subst, arith, sum_by}
 use Rattle.std.specs.Prelude.{unwrap_or}
 use Rattle.std.proofs.lemmas.Bool.{cases_lt}
+use Rattle.std.proofs.lemmas.Option.{slice_get_past}
 use Rattle.osm_model.specs.VersionSet.{VersionSet}
 use Rattle.osm_model.specs.Sets.{size}
 use Rattle.osm_model.specs.Pairwise.{Pairwise}
@@ -37,7 +38,7 @@ use Rattle.osm_mirror.specs.run.ShardRefusal.{RefusesSpan}
 use Rattle.osm_mirror.specs.run.ShardJob.{shard_slices, IsSpanJob}
 use Rattle.osm_mirror.specs.run.SliceJob.{SliceFileCanGive, given_slice, given_slices, HasSlice, GivesSlice, IsSliceJob, RefusesSlice}
 use Rattle.osm_mirror.proofs.run_laws.FileExtentLaws.{found_is, good_is, fault_is, slice_number}
-use Rattle.osm_mirror.proofs.run_laws.FilesRefusalLaws.{at_is, none_after}
+use Rattle.osm_mirror.proofs.run_laws.FilesRefusalLaws.{at_is}
 use Rattle.osm_mirror.proofs.run_laws.FilesJobLaws.{as_pairs, pairwise_length}
 
 -- ---- lists that belong together
@@ -90,7 +91,7 @@ to_mapped P f [] (y ∷ ys) h = absurd h
 to_mapped P f (x ∷ xs) [] h = absurd h
 to_mapped P f (x ∷ xs) (y ∷ ys) h = (h.0, to_mapped P f xs ys h.1)
 
--- a run that is cut short is out of memory, or the output is at fault
+-- a job that is cut short is out of memory, or the output is at fault
 pub cut_why : (count : ℕ) (change : Change) (spelled : List ℕ) (fault : Fault) → CutShort count change spelled fault
     → (fault ≡ memory_fault) ⊎ IsOutputFault count fault
 cut_why count change spelled fault c = elim c.why [
@@ -208,7 +209,7 @@ module _ {F R : Type 0} (known : F → Option (List ℕ)) (fails : F → Type 0)
     refused_at n (suc k) (file ∷ files) (input ∷ inputs) (c ∷ given) fault i g low e =
         next_refusal n file files fault (refused_at (n + 1) k files inputs given fault i.1 g.1 (omega (arith, low)) e)
 
-  -- ---- what the run writes
+  -- ---- what the job writes
   no_sets : (given : List (Outside × InputRest)) (found : List VersionSet) (span : Span) → given ≡ []
       → Pairwise (HasSlice span) given found → found ≡ []
   no_sets [] [] span is h = refl
@@ -232,7 +233,7 @@ module _ {F R : Type 0} (known : F → Option (List ℕ)) (fails : F → Type 0)
     written_count = count ∙ ap (λ (xs : List VersionSet). capped_count (size (selection_of selection (union_of xs)))) same;
   }
 
-  -- A run over the extents of files is the run for the span.
+  -- A job over the extents of files is the job for the span.
   pub span_run_is : (all_objects sliced : Span) (span : Option Span) → sliced ≡ unwrap_or span all_objects
       → (files : List F) (inputs : List (SliceFile R))
       → AreInputsOf known fails can span files inputs → (selection : Selection) (format : Format) (change : Change) (counts : Counts)
@@ -249,7 +250,7 @@ module _ {F R : Type 0} (known : F → Option (List ℕ)) (fails : F → Type 0)
       (subst (λ (s : Span). Pairwise (HasSlice s) given run.held) is run.files)) run.written
       run.written_count
 
-  -- ---- why the run is refused
+  -- ---- why the job is refused
   abbrev Moved : List FileExtent → ℕ → Fault → Fault
   Moved extents count fault = fault_in_extent fault count (slice_get extents fault.input)
 
@@ -263,7 +264,7 @@ module _ {F R : Type 0} (known : F → Option (List ℕ)) (fails : F → Type 0)
       → Moved extents count fault ≡ fault_at count output.place output.reason
   moved_output extents count place fault output is at =
       ap (fault_in_extent fault count)
-      (ap (slice_get extents) (ap (λ f. f.input) is ∙ at) ∙ none_after extents (length extents) (omega arith))
+      (ap (slice_get extents) (ap (λ f. f.input) is ∙ at) ∙ slice_get_past extents (length extents) (omega arith))
       ∙ ap (λ (f : Fault). fault_at count f.place f.reason) is
 
   why_moved : (extents : List FileExtent) (count : ℕ) (number : ℕ) (spelled : List ℕ) (taken : ℕ) (failed : Bool) (fault : Fault)
@@ -291,7 +292,7 @@ module _ {F R : Type 0} (known : F → Option (List ℕ)) (fails : F → Type 0)
   of_cut files fault (inl memory) = inl (inl memory)
   of_cut files fault (inr output) = inr output
 
-  -- a refusal at another place of the file
+  -- a refusal at another offset of the file
   refusal_moved : (Fails : Type 0) (k : Option (List ℕ)) (fault r : Fault) → r.reason ≡ fault.reason → (fault.reason ≡ Memory → ⊥)
       → IsFileRefusal Fails k fault → IsFileRefusal Fails k r
   refusal_moved Fails k fault r same other (inl (inl memory)) = absurd (other (ap (λ f. f.reason) memory))
@@ -303,7 +304,7 @@ module _ {F R : Type 0} (known : F → Option (List ℕ)) (fails : F → Type 0)
   of_file span files extents fault many r =
       let index : fault.input ≡ r.k = r.input_is ∙ (let e : 0 + r.k ≡ r.k = omega arith in e) in
       let low : r.k < length extents = ⊎_elim (λ fine. fine)
-      (λ far. absurd (let no : None ≡ Some r.file = sym (none_after files r.k (omega (arith, far, many))) ∙ r.at in cc))
+      (λ far. absurd (let no : None ≡ Some r.file = sym (slice_get_past files r.k (omega (arith, far, many))) ∙ r.at in cc))
       (cases_lt r.k (length extents)) in
       let extent = some_at extents r.k low in
       let found : slice_get extents fault.input ≡ Some extent.0 = ap (slice_get extents) index ∙ extent.1 in
@@ -322,7 +323,7 @@ module _ {F R : Type 0} (known : F → Option (List ℕ)) (fails : F → Type 0)
       → Pairwise HoldsSorted all held → Pairwise (GoodSet span) files held
   good_sets span = chained (IsGood known fails) HoldsSorted (GoodSet span) (λ file bytes set good holds. (bytes, good, holds))
 
-  -- A refused run over the extents of files is a refused run for the span.
+  -- A refused job over the extents of files is a refused job for the span.
   pub span_refused : (all_objects sliced : Span) (span : Option Span) → sliced ≡ unwrap_or span all_objects
       → (files : List F) (inputs : List (SliceFile R)) (extents : List FileExtent)
       → length extents ≡ length inputs → AreInputsOf known fails can span files inputs → (selection : Selection) (format : Format)
@@ -355,7 +356,7 @@ module _ {F R : Type 0} (known : F → Option (List ℕ)) (fails : F → Type 0)
               (cut_moved extents (length files) (length given) change _ fault number
               cut))
           | inr f ↦ of_file span files extents fault (many ∙ sym files_many)
-              (refused_at span 0 f.place files inputs given fault are g f.within f.refusal)
+              (refused_at span 0 f.index files inputs given fault are g f.within f.refusal)
         ];
         cut = λ all held good holds few.
             cut_moved extents (length files) (length given) change _ fault number
@@ -392,7 +393,7 @@ module _ {F : Type 0} (known : F → Option (List ℕ)) (fails : F → Type 0) w
   only_memory files fault all held good holds few (inr (inr (reason, long))) =
       absurd (let many = long all (have_good files all good) in omega (arith, many, few))
 
-  -- Files that are refused before anything is written refuse the run.
+  -- Files that are refused before anything is written refuse the job.
   pub nothing_cut : (selection : Selection) (format : Format) (span : List (List ℕ) → Option Span) (files : List F) (change : Change)
       (fault : Fault) → Appends change [] → AreRefused known fails IsFileRefusal files fault
       → RefusesSpan known fails IsFileRefusal selection format span files change fault

@@ -1,4 +1,4 @@
--- Turns of a run: what an output holds that was cleared between them, and why a turn is refused.
+-- Turns of a job: what an output holds that was cleared between them, and why a turn is refused.
 use Rattle.std.proofs.Common.{◌≡◌, ◌⊎◌, inl, inr, ⊎_elim, ℕ, zero, suc, Bool, true, false, List, [], ◌∷◌, ◌++◌, length, Option, Some, None}
 use Rattle.std.proofs.Common.{IfSome, IfErr, slice_get, Result, Ok, Err, refl, sym, ap, subst, ◌∙◌, append-nil}
 use Rattle.std.proofs.lemmas.Bool.{false≢true}
@@ -34,11 +34,11 @@ two_orders : (order : Order) → order ≡ Sorted → order ≡ Any → ⊥
 two_orders order sorted any = (let e : Sorted ≡ Any = sym sorted ∙ any in cc)
 
 module _ {O : Type 0} (output : Ghosts O) (can : Bool) (order : Order) (before : O) where
-  -- the output at the start of a turn: that of the run's start; or it was cleared, in a run over files of any order
+  -- the output at the start of a turn: that of the job's start; or it was cleared, in a job over files of any order
   abbrev pub Starts : O → Type 0
   Starts now = (now ≡ before) ⊎ ((can ≡ true) × (order ≡ Any) × IsCleared (output.holds before) (output.holds now))
 
-  -- What a turn wrote, the run wrote.
+  -- What a turn wrote, the job wrote.
   pub wrote_to : (now after : O) (Writes : Change → Type 0) → Starts now → Writes (change_of output now after)
       → WroteTo output can before after Writes
   wrote_to now after Writes (inl same) wrote = inl (subst (λ (o : O). Writes (change_of output o after)) same wrote)

@@ -4,7 +4,7 @@ use Rattle.std.proofs.Common.{drop, append-nil, take, set, get_or, slice_get, Op
 use Rattle.std.proofs.Common.{arith, IsTrue, ◌↔◌, Bor}
 use Rattle.std.specs.List.{All}
 use Rattle.std.proofs.lemmas.Bool.{false≢true}
-use Rattle.std.proofs.lemmas.List.{take_all}
+use Rattle.std.proofs.lemmas.List.{take_all, drop_all, take_more_set}
 use Rattle.std.proofs.lemmas.List.Elements.{All-nil, All-cons, All-head, All-tail, All-append}
 use Rattle.osm_files.specs.declared.fault.Fault.{Fault}
 use Rattle.osm_files.specs.declared.sorted_run.SortedRun.{SortedRun}
@@ -14,6 +14,7 @@ use Rattle.osm_files.specs.FileRuns.{IfWhole, IsAccepted, IsAcceptedRun, IsSorte
 use Rattle.osm_files.specs.Input.{InputRest}
 use Rattle.osm_files.specs.SortedRun.{IsSplitIntoRuns}
 use Rattle.osm_files.proofs.SplitLaws.{whole_file}
+use Rattle.osm_files.proofs.SinkLaws.{front_at}
 use Rattle.osm_mirror.specs.declared.run.file_way.FileWay.{FileWay}
 use Rattle.osm_mirror.specs.declared.run.files_job.JobFile.{JobFile}
 use Rattle.osm_mirror.specs.declared.run.files_job.JobFile.TheVariants.{File}
@@ -22,7 +23,7 @@ use Rattle.osm_mirror.specs.declared.run.files_job.Order.TheVariants.{Sorted, An
 use Rattle.osm_mirror.specs.run.FilesRefusal.{IsSizeFault, IsFirstIn, IsFirstOf, IsFaultOfBytes, IsRefusedFile, AreRefused}
 use Rattle.osm_mirror.specs.run.FilesRefusal.{AreSettled}
 use Rattle.osm_mirror.specs.run.FilesJob.{IsWhole, IsReadWhole, IsAsRequired, IsWayOf, FitsBytes, FileFits, FilesFit}
-use Rattle.osm_mirror.proofs.run_laws.FilesJobLaws.{take_more, pairwise_length}
+use Rattle.osm_mirror.proofs.run_laws.FilesJobLaws.{pairwise_length}
 
 pub get_slice : {X : Type 0} (xs : List X) (k : ℕ) (x : X) → k < length xs → x ≡ get_or xs k x → slice_get xs k ≡ Some x
 get_slice [] k x low is = absurd (omega (arith, low))
@@ -36,12 +37,12 @@ long_bytes Any all fault long = λ accepted. (let short = accepted.1.short in ab
 
 module _ {F R : Type 0} (fails : F → Type 0) (bytes : F → Option (List ℕ)) (can : R → InputRest → Type 0) (order : Order) where
   -- The refusal of one file is one of all files.
-  pub among_files : (files : List (JobFile F R)) (number : ℕ) (file : JobFile F R) (fault : Fault) → number < length files
-      → file ≡ get_or files number file → IsRefusedFile fails bytes can order number file fault
+  pub among_files : (files : List (JobFile F R)) (input : ℕ) (file : JobFile F R) (fault : Fault) → input < length files
+      → file ≡ get_or files input file → IsRefusedFile fails bytes can order input file fault
       → AreRefused fails bytes can order files fault
-  among_files files number file fault low is (inl memory) = inl memory
-  among_files files number file fault low is (inr (at, found)) =
-      inr (file, subst (λ (k : ℕ). slice_get files k ≡ Some file) (sym at) (get_slice files number file low is), found)
+  among_files files input file fault low is (inl memory) = inl memory
+  among_files files input file fault low is (inr (at, found)) =
+      inr (file, subst (λ (k : ℕ). slice_get files k ≡ Some file) (sym at) (get_slice files input file low is), found)
 
   too_long : (known : Option (List ℕ)) (fault : Fault) → IfSome known (λ all. 2 ^ 62 ≤ length all)
       → IfSome known (λ all. IsFaultOfBytes order all fault)
@@ -49,17 +50,17 @@ module _ {F R : Type 0} (fails : F → Type 0) (bytes : F → Option (List ℕ))
   too_long (Some all) fault long = long_bytes order all fault long
 
   -- A file whose size isn't known, or that is too long, is refused.
-  pub size_refused : (f : Bor F) (number : ℕ) (fault : Fault) → fault.input ≡ number → IsSizeFault (fails f.now) (bytes f.now) fault
-      → IsRefusedFile fails bytes can order number (File f) fault
-  size_refused f number fault at (inl failed) = inr (at, inl failed)
-  size_refused f number fault at (inr long) = inr (at, inr (too_long (bytes f.now) fault long))
+  pub size_refused : (f : Bor F) (input : ℕ) (fault : Fault) → fault.input ≡ input → IsSizeFault (fails f.now) (bytes f.now) fault
+      → IsRefusedFile fails bytes can order input (File f) fault
+  size_refused f input fault at (inl failed) = inr (at, inl failed)
+  size_refused f input fault at (inr long) = inr (at, inr (too_long (bytes f.now) fault long))
 
 -- The first version out of order of one of the files.
-pub first_at : {F R : Type 0} (bytes : F → Option (List ℕ)) (files : List (JobFile F R)) (number : ℕ) (file : JobFile F R)
-    (first : Option ℕ) → slice_get files number ≡ Some file
-    → IfSome first (λ place. IsFirstOf bytes files (record { file = number; place = place })) → IfSome first (IsFirstIn bytes file)
-first_at bytes files number file None at known = tt
-first_at bytes files number file (Some place) at known = known file at
+pub first_at : {F R : Type 0} (bytes : F → Option (List ℕ)) (files : List (JobFile F R)) (input : ℕ) (file : JobFile F R)
+    (first : Option ℕ) → slice_get files input ≡ Some file
+    → IfSome first (λ offset. IsFirstOf bytes files (record { file = input; offset = offset })) → IfSome first (IsFirstIn bytes file)
+first_at bytes files input file None at known = tt
+first_at bytes files input file (Some offset) at known = known file at
 
 -- the refusal of a file in which no runs are found
 module _ (Fails : Type 0) (fault : Fault) where
@@ -72,11 +73,11 @@ module _ (Fails : Type 0) (fault : Fault) where
 
 module _ {F R : Type 0} (fails : F → Type 0) (bytes : F → Option (List ℕ)) (can : R → InputRest → Type 0) where
   -- A file in which no runs are found, since it can't be read, is refused.
-  pub runs_refused : (f : Bor F) (number size : ℕ) (fault : Fault) → IfSome (bytes f.now) (λ all. length all ≡ size)
-      → IsOfFile number fault → IfWhole (bytes f.now) size (λ all. IsRefusalOf (fails f.now) all fault)
-      → IsRefusedFile fails bytes can Any number (File f) fault
-  runs_refused f number size fault long (inl memory) refused = inl memory
-  runs_refused f number size fault long (inr at) refused =
+  pub runs_refused : (f : Bor F) (input size : ℕ) (fault : Fault) → IfSome (bytes f.now) (λ all. length all ≡ size)
+      → IsOfFile input fault → IfWhole (bytes f.now) size (λ all. IsRefusalOf (fails f.now) all fault)
+      → IsRefusedFile fails bytes can Any input (File f) fault
+  runs_refused f input size fault long (inl memory) refused = inl memory
+  runs_refused f input size fault long (inr at) refused =
       ⊎_elim (λ memory. inl memory) (λ found. inr (at, found)) (known_runs (fails f.now) fault (bytes f.now) size long refused)
 
 -- ---- ways
@@ -134,28 +135,22 @@ both_all P Q (run ∷ runs) follows has =
 
 -- The runs that are found in an accepted file are sorted files.
 pub runs_sorted : (known : Option (List ℕ)) (size : ℕ) (first : Option ℕ) (runs : List SortedRun) → IfSome known (λ all. length all ≡ size)
-    → IfSome first (λ place. IfSome known (λ all. IsAccepted all → IsFirstUnsorted all place))
+    → IfSome first (λ offset. IfSome known (λ all. IsAccepted all → IsFirstUnsorted all offset))
     → IfWhole known size (λ all. IfSome first (IsFirstUnsorted all) → All (IsSortedIfAccepted all) runs)
     → IfWhole known size (λ all. IsAccepted all → All (IsAcceptedRun all) runs)
     → IfSome known (λ all. IsAccepted all → All (IsSortedRun all) runs)
 runs_sorted None size first runs long right sorted files = tt
 runs_sorted (Some all) size None runs long right sorted files = λ accepted.
     both_all (IsAcceptedRun all) (IsSortedRun all) runs (sorted long tt) (files long accepted)
-runs_sorted (Some all) size (Some place) runs long right sorted files = λ accepted.
+runs_sorted (Some all) size (Some offset) runs long right sorted files = λ accepted.
     both_all (IsAcceptedRun all) (IsSortedRun all) runs (sorted long (right accepted)) (files long accepted)
 
 -- ---- ways that are changed in place
-none_left : {X : Type 0} (xs : List X) (k : ℕ) → length xs ≤ k → drop k xs ≡ []
-none_left [] zero low = refl
-none_left [] (suc k) low = refl
-none_left (x ∷ xs) zero low = absurd (omega (arith, low))
-none_left (x ∷ xs) (suc k) low = none_left xs k (omega (arith, low))
-
 -- a list of which all members were changed
 pub written_back : {X : Type 0} (n : ℕ) (new old : List X) → length new ≡ length old → n ≡ length old
     → take n (new ++ drop (length new) old) ≡ new
 written_back n new old same is =
-    ap (λ ys. take n (new ++ ys)) (none_left old (length new) (omega (arith, same)))
+    ap (λ ys. take n (new ++ ys)) (drop_all (length new) old (omega (arith, same)))
     ∙ ap (take n) (append-nil new) ∙ take_all n new (omega (arith, same, is))
 
 module _ {F R : Type 0} (bytes : F → Option (List ℕ)) (files : List (JobFile F R)) where
@@ -181,13 +176,6 @@ not_any Sorted never = refl
 not_any Any never = absurd (never refl)
 
 -- ---- files that are split one after the other
-take_set : {X : Type 0} (xs : List X) (n : ℕ) (x : X) → n < length xs → take (n + 1) (set xs n x) ≡ take n xs ++ x ∷ []
-take_set [] n x low = absurd (omega (arith, low))
-take_set (y ∷ xs) zero x low = refl
-take_set (y ∷ xs) (suc n) x low =
-    let next : suc n + 1 ≡ suc (n + 1) = omega arith in
-    ap (λ (k : ℕ). take k (y ∷ set xs n x)) next ∙ ap (λ zs. y ∷ zs) (take_set xs n x (omega (arith, low)))
-
 abbrev pub Settled : FileWay → Type 0
 Settled way = way.may_be_split ≡ false
 
@@ -198,10 +186,10 @@ one_more ways way settled one = All-append Settled ways (way ∷ []) settled (Al
 pub settled_set : (ways after : List FileWay) (n : ℕ) (way : FileWay) → n < length ways → after ≡ set ways n way → Settled way
     → AreSettled (take n ways) → AreSettled (take (n + 1) after)
 settled_set ways after n way low is one settled =
-    subst AreSettled (sym (ap (take (n + 1)) is ∙ take_set ways n way low)) (one_more (take n ways) way settled one)
+    subst AreSettled (sym (ap (take (n + 1)) is ∙ take_more_set ways n way low)) (one_more (take n ways) way settled one)
 
 -- One file more isn't split, since it needn't be.
 pub settled_kept : (ways : List FileWay) (n : ℕ) (way : FileWay) → n < length ways → way ≡ get_or ways n way → Settled way
     → AreSettled (take n ways) → AreSettled (take (n + 1) ways)
 settled_kept ways n way low is one settled =
-    subst AreSettled (sym (take_more ways n way low is)) (one_more (take n ways) way settled one)
+    subst AreSettled (sym (front_at ways n way low is)) (one_more (take n ways) way settled one)

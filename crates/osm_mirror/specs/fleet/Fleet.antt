@@ -1,4 +1,4 @@
--- Fleets: the mirrors after an event, the sources that reached each of them, and the history of each after a run of
+-- Fleets: the mirrors after an event, the sources that reached each of them, and the history of each after several
 -- events.
 use Rattle.std.specs.Prelude.{◌≡◌, ℕ, ◌<◌, ◌^◌, Bool, true, false, ◌&&◌, cond, nat_eq, List, [], ◌∷◌, ◌++◌, length, map}
 use Rattle.std.specs.Prelude.{slice_index_or, slice_set}
@@ -69,7 +69,7 @@ AreRepliesTo mirrors (e ∷ es) [] = ⊥
 AreRepliesTo mirrors (e ∷ es) (r ∷ rs) = IsReplyTo mirrors e r × AreRepliesTo (mirrors_after mirrors e r) es rs
 
 -- ---- the sources that reached a mirror
--- a source of versions: the history of a mirror when the run began, its opening; or a file
+-- a source of versions: the history of a mirror before the first event, its opening; or a file
 pub data Source : Type 0 where
   Opening : (mirror : ℕ) → Source
   File : (bytes : List ℕ) → Source
@@ -84,7 +84,7 @@ abbrev pub is_full : Keep → Bool
 is_full Full = true
 is_full Latest = false
 
--- the track of each mirror when a run begins: only the mirror's own opening has reached it
+-- the track of each mirror before the first event: only the mirror's own opening has reached it
 abbrev pub first_track : List MirrorData → ℕ → Track
 first_track openings m = record { reach = Opening m ∷ []; pure = is_full (mirror_at openings m).keep }
 
@@ -114,11 +114,11 @@ tracks_after_all tracks [] (r ∷ rs) = tracks
 tracks_after_all tracks (e ∷ es) [] = tracks
 tracks_after_all tracks (e ∷ es) (r ∷ rs) = tracks_after_all (tracks_after tracks e r) es rs
 
--- the sources that reached each mirror in a run of events with these replies
+-- the sources that reached each mirror by events with these replies
 abbrev pub tracks : List MirrorData → List Event → List Reply → ℕ → Track
 tracks openings = tracks_after_all (first_track openings)
 
--- the set of a source: the history of the mirror when the run began, or the file's set
+-- the set of a source: the history of the mirror before the first event, or the file's set
 abbrev pub set_of : List MirrorData → Source → VersionSet
 set_of openings (Opening m) = (mirror_at openings m).held
 set_of openings (File bytes) = held_by bytes
@@ -141,7 +141,7 @@ pub record HoldsOf (all : VersionSet) (pure : Bool) (m : MirrorData) : Type 0 wh
   pub latest_exact : m.keep ≡ Latest → m.held ≡ snapshot all
   pub full_exact : pure ≡ true → (m.keep ≡ Full) × (m.held ≡ all)
 
--- A run of events over mirrors. There is one reply for each event, as `IsReplyTo` requires. The mirrors have the
+-- Events that mirrors went through. There is one reply for each event, as `IsReplyTo` requires. The mirrors have the
 -- histories that the events lead to, and keep their number and kinds. Each mirror holds, of all that reached it, the
 -- part that `HoldsOf` requires.
 pub record Converges (old : List MirrorData) (events : List Event) (replies : List Reply)

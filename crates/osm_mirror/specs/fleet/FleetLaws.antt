@@ -19,7 +19,7 @@ abbrev pub AreEmpty : List MirrorData → Type 0
 AreEmpty mirrors = (m : ℕ) → (mirror_at mirrors m).held ≡ empty
 
 -- If the same files reached two latest mirrors of a new fleet, through any mirrors and with any repetitions, the two
--- hold the same history after the run, and write the same bytes in each format.
+-- hold the same history after the events, and write the same bytes in each format.
 abbrev pub LatestMirrorsAgree : Type 0
 LatestMirrorsAgree =
     (old new : List MirrorData) (events : List Event) (replies : List Reply) → Converges old events replies new →
@@ -30,7 +30,7 @@ LatestMirrorsAgree =
     spell format (mirror_at new m).held ≡ spell format (mirror_at new n).held)
 
 -- If the same files reached two full mirrors of a new fleet, through full mirrors only, the two hold the same history
--- after the run, and write the same bytes in each format.
+-- after the events, and write the same bytes in each format.
 abbrev pub FullMirrorsAgree : Type 0
 FullMirrorsAgree =
     (old new : List MirrorData) (events : List Event) (replies : List Reply) → Converges old events replies new →

@@ -9,10 +9,10 @@ use Rattle.osm_files.specs.Reason.{reason_name}
 
 -- the line of a reason at an offset of the file with this name; out of memory names no file
 abbrev pub reason_line : List ℕ → ℕ → Reason → List ℕ
-reason_line name place Memory = codes "out of memory"
-reason_line name place (Opl opl.Memory) = codes "out of memory"
-reason_line name place (O5 o5.Memory) = codes "out of memory"
-reason_line name place reason = name ++ codes ": " ++ decimal place ++ codes ": " ++ reason_name reason
+reason_line name offset Memory = codes "out of memory"
+reason_line name offset (Opl opl.Memory) = codes "out of memory"
+reason_line name offset (O5 o5.Memory) = codes "out of memory"
+reason_line name offset reason = name ++ codes ": " ++ decimal offset ++ codes ": " ++ reason_name reason
 
 -- the line of a fault: its name is that of the input with the fault's number, or of the output if there is no such
 -- input

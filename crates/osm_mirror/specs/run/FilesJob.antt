@@ -1,4 +1,4 @@
--- A run over open files and streams: an own rule of this project.
+-- A job over open files and streams: an own rule of this project.
 use Rattle.std.specs.Prelude.{◌≡◌, ◌⊎◌, ℕ, ◌+◌, ◌-◌, ◌<◌, ◌^◌, Bool, true, false, List, [], ◌∷◌, ◌++◌, length, Option}
 use Rattle.std.specs.Prelude.{Some, None, IfSome, slice_get}
 use Rattle.std.specs.List as list
@@ -44,7 +44,7 @@ HoldsAs Sorted = HoldsSorted
 HoldsAs Any = Holds
 
 module _ {F R : Type 0} (bytes : F → Option (List ℕ)) (can : R → InputRest → Type 0) where
-  -- A file of a run holds this set, in the order that is required, as far as the file's bytes are known. A stream gave
+  -- A file of a job holds this set, in the order that is required, as far as the file's bytes are known. A stream gave
   -- such a file.
   abbrev pub FileHolds : Order → JobFile F R → VersionSet → Type 0
   FileHolds order (File f) held = IfSome (bytes f.now) (λ all. HoldsAs order all held)
@@ -59,8 +59,8 @@ pub record IsFilesJob {F R : Type 0} (bytes : F → Option (List ℕ)) (can : R 
   pub written : Appends change (spell job.format (selection_of job.selection (union_of held)))
   pub written_count : counts.written ≡ capped_count (size (selection_of job.selection (union_of held)))
 
--- A run wrote to an output that was `before`, and is `after`: with this change; or the output, which can be cleared,
--- was cleared, and the run wrote then.
+-- A job wrote to an output that was `before`, and is `after`: with this change; or the output, which can be cleared,
+-- was cleared, and the job wrote then.
 abbrev pub WroteTo : {O : Type 0} → Ghosts O → Bool → O → O → (Change → Type 0) → Type 0
 WroteTo {O = O} output can_clear before after Writes =
     Writes (change_of output before after)
@@ -146,16 +146,16 @@ module _ {F R I : Type 0} (fails : F → Type 0) (bytes : F → Option (List ℕ
 -- ---- the faults of inputs
 -- the fault of a run's input as the fault of its file
 abbrev pub fault_in_run : ℕ → SortedRun → Fault → Fault
-fault_in_run number run fault = fault_at number (offset_in_file run fault.place) fault.reason
+fault_in_run file run fault = fault_at file (offset_in_file run fault.place) fault.reason
 
 -- the fault in this run of its file, or another fault if there is no such run
 abbrev pub fault_in_run_or : ℕ → Option SortedRun → Fault → Fault → Fault
-fault_in_run_or number (Some run) fault other = fault_in_run number run fault
-fault_in_run_or number None fault other = other
+fault_in_run_or file (Some run) fault other = fault_in_run file run fault
+fault_in_run_or file None fault other = other
 
 -- The fault of the input `input` as the fault of its file, for files that are read in these ways and are numbered from
--- `number` on. A fault of the output has the number of files.
+-- `file` on. A fault of the output has the number of files.
 abbrev pub fault_in_files : ℕ → List FileWay → ℕ → Fault → Fault
-fault_in_files number [] input fault = fault_at number fault.place fault.reason
-fault_in_files number (way ∷ ways) input fault = fault_in_run_or number (slice_get way.runs.items input) fault
-    (fault_in_files (number + 1) ways (input - length way.runs.items) fault)
+fault_in_files file [] input fault = fault_at file fault.place fault.reason
+fault_in_files file (way ∷ ways) input fault = fault_in_run_or file (slice_get way.runs.items input) fault
+    (fault_in_files (file + 1) ways (input - length way.runs.items) fault)

@@ -1,4 +1,4 @@
--- Why a run over open files and streams is refused: an own rule of this project.
+-- Why a job over open files and streams is refused: an own rule of this project.
 use Rattle.std.specs.Prelude.{◌≡◌, ◌⊎◌, ℕ, ◌≤◌, ◌^◌, Bool, true, false, List, length, Option, Some, None, slice_get}
 use Rattle.std.specs.Prelude.{IfSome, Result, Ok, Err}
 use Rattle.std.specs.List as list
@@ -48,16 +48,16 @@ AreSettled ways = list.All (λ way. way.may_be_split ≡ false) ways
 
 -- the file of this number may be split
 abbrev pub MayBeSplit : List FileWay → ℕ → Type 0
-MayBeSplit ways number = (way : FileWay) × (slice_get ways number ≡ Some way) × (way.may_be_split ≡ true)
+MayBeSplit ways file = (way : FileWay) × (slice_get ways file ≡ Some way) × (way.may_be_split ≡ true)
 
 -- a turn was refused since a file that may be split isn't sorted
 abbrev pub IsUnsortedTurn : Result Counts Fault → List FileWay → Type 0
 IsUnsortedTurn (Ok counts) ways = ⊥
 IsUnsortedTurn (Err fault) ways = (fault.reason ≡ Unsorted) × MayBeSplit ways fault.input
 
--- the file and the place of a refusal
+-- the file and the offset of a refusal
 abbrev pub first_of : Fault → FirstUnsorted
-first_of fault = record { file = fault.input; place = fault.place }
+first_of fault = record { file = fault.input; offset = fault.place }
 
 -- a version is found if a turn was refused for it, because a file that may be split isn't sorted
 abbrev pub IsFirstFound : Result Counts Fault → List FileWay → Option FirstUnsorted → Type 0
@@ -71,15 +71,15 @@ IsSizeFault Fails known fault =
     (Fails × (fault.reason ≡ ReadFault)) ⊎ IfSome known (λ all. 2 ^ 62 ≤ length all)
 
 module _ {F R : Type 0} (bytes : F → Option (List ℕ)) where
-  -- the version at this place is the first one of the file that is out of order, if the file is accepted in any order
+  -- the version at this offset is the first one of the file that is out of order, if the file is accepted in any order
   abbrev pub IsFirstIn : JobFile F R → ℕ → Type 0
-  IsFirstIn (File f) place = IfSome (bytes f.now) (λ all. IsAccepted all → IsFirstUnsorted all place)
-  IsFirstIn (Stream r) place = ⊥
+  IsFirstIn (File f) offset = IfSome (bytes f.now) (λ all. IsAccepted all → IsFirstUnsorted all offset)
+  IsFirstIn (Stream r) offset = ⊥
 
   -- a version is known to be the first one of its file that is out of order
   abbrev pub IsFirstOf : List (JobFile F R) → FirstUnsorted → Type 0
   IsFirstOf files first =
-      (file : JobFile F R) → slice_get files first.file ≡ Some file → IsFirstIn file first.place
+      (file : JobFile F R) → slice_get files first.file ≡ Some file → IsFirstIn file first.offset
 
   -- if the file of one version is to be split, this is the first one of its file that is out of order
   abbrev pub IsFirstKnown : List (JobFile F R) → FilesToSplit → Type 0
@@ -103,14 +103,14 @@ module _ {F R : Type 0} (fails : F → Type 0) (bytes : F → Option (List ℕ))
 
   -- memory ran out, or the fault is one of this file, which has this number
   abbrev pub IsRefusedFile : Order → ℕ → JobFile F R → Fault → Type 0
-  IsRefusedFile order number file fault =
-      (fault ≡ memory_fault) ⊎ ((fault.input ≡ number) × IsFaultOf order file fault)
+  IsRefusedFile order input file fault =
+      (fault ≡ memory_fault) ⊎ ((fault.input ≡ input) × IsFaultOf order file fault)
 
   -- memory ran out, or the fault is one of these files
   abbrev pub AreRefused : Order → List (JobFile F R) → Fault → Type 0
   AreRefused order files fault = (fault ≡ memory_fault) ⊎ IsFaultAmong order files fault
 
-  -- A file that no run refuses: no read of it fails, its bytes are known, and they are a file that holds this set, in
+  -- A file that no job refuses: no read of it fails, its bytes are known, and they are a file that holds this set, in
   -- the order that is required. A stream gives such a file, whatever it gives.
   abbrev pub IsGood : Order → JobFile F R → VersionSet → Type 0
   IsGood order (File f) held =
@@ -119,8 +119,8 @@ module _ {F R : Type 0} (fails : F → Type 0) (bytes : F → Option (List ℕ))
 
   -- if each file is good, a front of the one spelling of the selection of the union of the files' sets was appended
   abbrev pub IsCutIfGood : FilesJob → List (JobFile F R) → Change → Fault → Type 0
-  IsCutIfGood run files change fault = (held : List VersionSet) → Pairwise (IsGood run.order) files held
-      → CutShort (length files) change (spell run.format (selection_of run.selection (union_of held))) fault
+  IsCutIfGood job files change fault = (held : List VersionSet) → Pairwise (IsGood job.order) files held
+      → CutShort (length files) change (spell job.format (selection_of job.selection (union_of held))) fault
 
   -- Why a job over these files was refused: memory ran out, or one of the files or the output is at fault. If all files
   -- are good, and nothing that was written may be removed, a front of the file that was to be written was appended.

@@ -1,4 +1,4 @@
--- The relation of a run over inputs: what it wrote and counted, and what it wrote if it was refused. An own rule of
+-- The relation of a job over inputs: what it wrote and counted, and what it wrote if it was refused. An own rule of
 -- this project.
 use Rattle.std.specs.Prelude.{◌≡◌, ℕ, ◌+◌, List, [], ◌∷◌, length, fold, sum_by}
 use Rattle.osm_model.specs.VersionSet.{VersionSet}
@@ -29,7 +29,7 @@ abbrev pub IsBoundedFor : Selection → (inputs given compared : ℕ) → Type 0
 IsBoundedFor selection inputs given compared =
     merged.IsBoundedFrom (merged.few_of selection given) inputs given compared
 
--- A run over these inputs, with this change of the output: each input gave a set, and the one spelling of the choice
+-- A job over these inputs, with this change of the output: each input gave a set, and the one spelling of the choice
 -- from the union of these sets was appended. `Compared` is the condition on the number of inputs, the number of
 -- versions in their sets, and the count of comparisons.
 pub record IsJobBy {I : Type 0} (Gives : I → VersionSet → Type 0) (choice : VersionSet → VersionSet)
@@ -50,7 +50,7 @@ IsCutShort Gives choice inputs format change fault =
     (held : List VersionSet) → Pairwise Gives inputs held
     → CutShort (length inputs) change (spell format (choice (union_of held))) fault
 
--- why a run was refused, and the bytes that it wrote
+-- why a job was refused, and the bytes that it wrote
 pub record RefusesJobBy {I : Type 0} (Why : Type 0) (Gives : I → VersionSet → Type 0)
     (choice : VersionSet → VersionSet) (inputs : List I) (format : Format) (change : Change) (fault : Fault) : Type 0
   where

@@ -1,4 +1,4 @@
--- Inputs that report their bytes beforehand, and laws that state for them what a run states of some bytes.
+-- Inputs that report their bytes beforehand, and laws that state for them what a job states of some bytes.
 use Rattle.std.specs.Prelude.{◌≡◌, List}
 use Rattle.std.specs.List as list
 use Rattle.osm_model.specs.VersionSet.{VersionSet}
@@ -41,7 +41,7 @@ KnownIsGiven {C = C} can inputs = (known given : List C) → AllKnownToGive can 
 abbrev pub HoldsOfKnown : {R C : Type 0} → (R → C → Type 0) → List R → (List C → Type 0) → Type 0
 HoldsOfKnown {C = C} can inputs P = SomeInputsGive can inputs P → (all : List C) → AllKnownToGive can inputs all → P all
 
--- A run over inputs that may report their bytes. If it is done and all inputs report their bytes, `Done` holds of
+-- A job over inputs that may report their bytes. If it is done and all inputs report their bytes, `Done` holds of
 -- these; if it is refused, `Refused` does. If it is done, each input that reports its bytes gives a set.
 pub record IsJobOfKnown {R C : Type 0} (can : R → C → Type 0) (inputs : List R) (Gives : C → VersionSet → Type 0)
     (Done : List C → Counts → Type 0) (Refused : List C → Fault → Type 0) : Type 0 where
@@ -57,7 +57,7 @@ MergesOfKnown {R = R} {O = O} can output = (inputs : List R) (format : Format) (
     (λ all. merge.IsMerged all format (change_of output before after))
     (λ all. merge.Refuses all format (change_of output before after))
 
--- runs over inputs that may report their bytes
+-- jobs over inputs that may report their bytes
 abbrev pub JobsOfKnown : {R O : Type 0} → (R → InputRest → Type 0) → Ghosts O → Type 0
 JobsOfKnown {R = R} {O = O} can output = (selection : Selection) (inputs : List (InputFile R)) (format : Format)
     (before after : O) → IsJobOfKnown (InputFileCanGive can) inputs GivesAs
@@ -70,7 +70,7 @@ MergesWriteASet {O = O} output = (all : List InputRest) (format : Format) (befor
     merge.IsMerged all format (change_of output before after) counts →
     WritesSet format (change_of output before after) counts
 
--- a run wrote the file of a set
+-- a job wrote the file of a set
 abbrev pub JobsWriteASet : {O : Type 0} → Ghosts O → Type 0
 JobsWriteASet {O = O} output = (selection : Selection) (all : List (ReadAs × InputRest)) (format : Format)
     (before after : O) (counts : Counts) → IsJob selection all format (change_of output before after) counts →
@@ -82,7 +82,7 @@ RefusedMergesHaveBegun {O = O} output = (all : List InputRest) (format : Format)
     merge.Refuses all format (change_of output before after) fault →
     (given : List VersionsToCome) × merge.AreGivenBy 0 all given × HasBegun given format (change_of output before after)
 
--- a run that was refused wrote a front of the file of the selection
+-- a job that was refused wrote a front of the file of the selection
 abbrev pub RefusedJobsHaveBegun : {O : Type 0} → Ghosts O → Type 0
 RefusedJobsHaveBegun {O = O} output = (selection : Selection) (all : List (ReadAs × InputRest)) (format : Format)
     (before after : O) (fault : Fault) → RefusesJob output selection all format before after fault →

@@ -80,7 +80,7 @@ selection_for Sort asked = Ok All
 selection_for Apply asked = Ok (applied_selection asked.with_history asked.with_deletions)
 selection_for TimeFilter asked = filtered_selection asked.time asked.end
 
--- the run for which a request asks
+-- the job for which a request asks
 abbrev pub requested_job : FileRequest → Result FilesJob RequestFault
 requested_job asked = and_then (selection_for asked.command asked) (λ selection. Ok (record {
   selection = selection;

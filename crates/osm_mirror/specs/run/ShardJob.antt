@@ -1,4 +1,4 @@
--- The run for one shard of an output, and the runs for all shards: an own rule of this project.
+-- The job for one shard of an output, and the jobs for all shards: an own rule of this project.
 use Rattle.std.specs.Prelude.{◌≡◌, ℕ, zero, suc, ◌+◌, ◌<◌, List, [], ◌∷◌, map, Option, Some, None}
 use Rattle.std.specs.List.{concat}
 use Rattle.osm_model.specs.VersionSet.{VersionSet}
@@ -37,7 +37,7 @@ pub record IsShardJob (job : ShardJob) (all : List (List ℕ)) (held : List Vers
   pub written_count : counts.written ≡ capped_count
       (size (shard_set job.selection job.shard.number job.shard.count all held))
 
--- A run for a span of objects over files that hold these sets: the one spelling of the selection of the union of the
+-- A job for a span of objects over files that hold these sets: the one spelling of the selection of the union of the
 -- sets' slices was appended. Without a span there are no slices.
 pub record IsSpanJob (selection : Selection) (span : Option Span) (held : List VersionSet) (format : Format)
     (change : Change) (counts : Counts) : Type 0 where
@@ -53,7 +53,7 @@ shard_outputs selection count all held (suc most) number =
     spell Opl (shard_set selection number count all held)
     ∷ shard_outputs selection count all held most (number + 1)
 
--- The runs for all shards write, in sequence, what one run over the files writes: the OPL outputs of the shards from 1
+-- The jobs for all shards write, in sequence, what one job over the files writes: the OPL outputs of the shards from 1
 -- to `count` are, in sequence, the OPL file of the selection of the union of the sets that the files hold.
 abbrev pub ShardJobsWriteTheJob : Type 0
 ShardJobsWriteTheJob =

@@ -1,4 +1,4 @@
--- Why a run for a shard is refused: an own rule of this project.
+-- Why a job for a shard is refused: an own rule of this project.
 use Rattle.std.specs.Prelude.{◌≡◌, ◌⊎◌, ℕ, ◌<◌, ◌≤◌, ◌^◌, List, length, sum_by, Option, Some}
 use Rattle.std.specs.Prelude.{None, IfSome, slice_get}
 use Rattle.osm_model.specs.Pairwise.{Pairwise}
@@ -66,7 +66,7 @@ module _ {F : Type 0} (known : F → Option (List ℕ)) (fails : F → Type 0) w
   abbrev pub AreRefused : (Type 0 → Option (List ℕ) → Fault → Type 0) → List F → Fault → Type 0
   AreRefused IsOf files fault = (fault ≡ memory_fault) ⊎ IsFaultAmong IsOf files fault ⊎ AreTooLong files fault
 
-  -- a file that no run refuses has these bytes, and no read of it fails
+  -- a file that no job refuses has these bytes, and no read of it fails
   abbrev pub IsGood : F → List ℕ → Type 0
   IsGood file bytes = (known file ≡ Some bytes) × (fails file → ⊥)
 
@@ -78,15 +78,15 @@ module _ {F : Type 0} (known : F → Option (List ℕ)) (fails : F → Type 0) w
       → CutShort (length files) change
       (spell format (selection_of selection (union_of (shard_slices (span all) held)))) fault
 
-  -- Why a run for a span of these files was refused: memory ran out, or one of the files or the output is at fault.
+  -- Why a job for a span of these files was refused: memory ran out, or one of the files or the output is at fault.
   pub record RefusesSpan (IsOf : Type 0 → Option (List ℕ) → Fault → Type 0) (selection : Selection) (format : Format)
       (span : List (List ℕ) → Option Span) (files : List F) (change : Change) (fault : Fault) : Type 0 where
     pub why : AreRefused IsOf files fault ⊎ IsOutputFault (length files) fault
     pub cut : IsCutIfGood selection format span files change fault
 
-  -- Why a run for a shard of these files was refused: memory ran out, or one of the files or the output is at fault. If
+  -- Why a job for a shard of these files was refused: memory ran out, or one of the files or the output is at fault. If
   -- all files are good, a front of the file that was to be written was appended.
   abbrev pub RefusesShardJob : {O : Type 0} → Ghosts O → ShardJob → List F → O → O → Fault → Type 0
-  RefusesShardJob output run files before after =
-      RefusesSpan IsFaultOfFile run.selection run.format (shard_span run.shard.number run.shard.count) files
+  RefusesShardJob output job files before after =
+      RefusesSpan IsFaultOfFile job.selection job.format (shard_span job.shard.number job.shard.count) files
       (change_of output before after)

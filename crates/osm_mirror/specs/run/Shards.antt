@@ -1,4 +1,4 @@
--- Shards of a run: several runs, each for a slice of the same files, together write what one run writes.
+-- Shards of a job: several jobs, each for a slice of the same files, together write what one job writes.
 use Rattle.std.specs.Prelude.{◌≡◌, ℕ, ◌<◌, ◌≤◌, ◌-◌, ◌^◌, List, [], ◌∷◌, length, map, take, drop}
 use Rattle.std.specs.List.{concat}
 use Rattle.std.specs.List.Sorted.{IsSorted}
@@ -65,8 +65,8 @@ by_span (span ∷ spans) extents = map first_set extents ∷ by_span spans (map 
 abbrev pub HasSlices : List Object → VersionSet → List VersionSet → Type 0
 HasSlices bounds held extents = slices bounds held ≡ extents
 
--- For sets with these slices, one run for each span writes what one run over the sets writes: the OPL files of the
--- runs, in sequence, are the OPL file of the one run.
+-- For sets with these slices, one job for each span writes what one job over the sets writes: the OPL files of the
+-- jobs, in sequence, are the OPL file of the one job.
 abbrev pub ShardsWriteTheJob : Type 0
 ShardsWriteTheJob =
     (selection : Selection) (bounds : List Object) (sets : List VersionSet) (extents : List (List VersionSet))

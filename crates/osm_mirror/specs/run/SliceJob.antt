@@ -1,4 +1,4 @@
--- The output of a run for a slice, and the reasons why the run is refused: an own rule of this project.
+-- The output of a job for a slice, and the reasons why the job is refused: an own rule of this project.
 use Rattle.std.specs.Prelude.{◌≡◌, ◌⊎◌, ℕ, true, not, List, length, None}
 use Rattle.std.specs.List.{list_any}
 use Rattle.osm_model.specs.Order.{version_cmp}
@@ -35,7 +35,7 @@ given_slice span number input = given_within input.0 number span (sorted_source 
 abbrev pub given_slices : ℕ → Span → List (Outside × InputRest) → List source.VersionsToCome
 given_slices number span = sources_by (given_slice span) number
 
--- The part that a run reads of a whole file: the versions within the span of those that the file's source gives. The
+-- The part that a job reads of a whole file: the versions within the span of those that the file's source gives. The
 -- source ends without a fault, or gives a version that isn't below the upper bound.
 pub record IsPartRead (span : Span) (given : source.VersionsToCome) (part : VersionSet) : Type 0 where
   pub slice : part ≡ slice_of span.from span.to (from_list {R = version_cmp} given.list)
@@ -43,7 +43,7 @@ pub record IsPartRead (span : Span) (given : source.VersionsToCome) (part : Vers
   pub complete : (given.refusal ≡ None) ⊎ (list_any (λ v. not (is_under span.to v)) given.list ≡ true)
 
 -- The versions that an input has within a span. A part of a file is sorted, and all its objects are within the span. Of
--- a whole file it is the part that the run reads. If the file is sorted, this is the slice of its set. If the span has
+-- a whole file it is the part that the job reads. If the file is sorted, this is the slice of its set. If the span has
 -- no upper bound, the whole file is sorted. The number of the input makes no difference: only a fault has it.
 abbrev pub HasSlice : Span → Outside × InputRest → VersionSet → Type 0
 HasSlice span (Refused, c) part = GivesSorted c part × IsWithin span part
@@ -52,7 +52,7 @@ HasSlice span (Dropped, c) part =
     × (span.to ≡ None → (held : VersionSet) × GivesSorted c held)
     × (number : ℕ) × IsPartRead span (sorted_source number c) part
 
--- A run for a slice of these inputs, with this change of the output: the run appended the one spelling of the selection
+-- A job for a slice of these inputs, with this change of the output: the job appended the one spelling of the selection
 -- of the union of the versions that the inputs have within the span.
 abbrev pub IsSliceJob : Slice → List (Outside × InputRest) → Format → Change → Counts → Type 0
 IsSliceJob slice =
@@ -64,12 +64,12 @@ abbrev pub GivesSlice : Span → Outside × InputRest → VersionSet → Type 0
 GivesSlice span (Refused, c) part = GivesSorted c part × IsWithin span part
 GivesSlice span (Dropped, c) part = (held : VersionSet) × GivesSorted c held × (part ≡ slice_of span.from span.to held)
 
--- The run is refused as a merge of the rests of the inputs within the span.
+-- The job is refused as a merge of the rests of the inputs within the span.
 abbrev pub IsSliceRefused : Slice → List (Outside × InputRest) → Format → Change → Fault → Type 0
 IsSliceRefused slice inputs format change fault =
     merged.IsRefusedAs slice.selection (given_slices 0 slice.span inputs) format (length inputs) change fault
 
--- Why a run for a slice was refused, and the bytes that it wrote. If all inputs have a slice, these are a front of the
+-- Why a job for a slice was refused, and the bytes that it wrote. If all inputs have a slice, these are a front of the
 -- one spelling of the selection of the union of the slices.
 abbrev pub RefusesSlice : Slice → List (Outside × InputRest) → Format → Change → Fault → Type 0
 RefusesSlice slice inputs format change fault =

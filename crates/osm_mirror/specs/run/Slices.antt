@@ -1,4 +1,4 @@
--- Files that are cut at objects into slices, and runs over the slices.
+-- Files that are cut at objects into slices, and jobs over the slices.
 use Rattle.std.specs.Prelude.{◌≡◌, ℕ, ◌<◌, ◌^◌, List, length, map}
 use Rattle.std.specs.List.{concat}
 use Rattle.std.specs.List.Sorted.{IsSorted}
@@ -28,8 +28,8 @@ SlicesHoldTheFile =
 abbrev pub AreSlicesWithin : List VersionSet → Span → List VersionSet → Type 0
 AreSlicesWithin sets span sliced = sliced ≡ map (slice_of span.from span.to) sets
 
--- One run for each span, over the slices of some sets, writes the same as one run over the sets: the OPL files of the
--- runs, in sequence, are the OPL file of the one run.
+-- One job for each span, over the slices of some sets, writes the same as one job over the sets: the OPL files of the
+-- jobs, in sequence, are the OPL file of the one job.
 abbrev pub SlicesWriteTheJob : Type 0
 SlicesWriteTheJob =
     (selection : Selection) (bounds : List Object) (sets : List VersionSet) (runs : List (List VersionSet))

@@ -56,10 +56,10 @@ left_of (Held rest) = size rest
 left_of (Sliced source) = versions_left source.source
 
 -- the number that the source's fault has after an earlier refused call; a source that holds a history refuses no call
-abbrev pub number_of : {R : Type 0} → InputSource R → ℕ
-number_of (Streamed source) = source.units.input
-number_of (Held rest) = 0
-number_of (Sliced source) = source.number
+abbrev pub input_of : {R : Type 0} → InputSource R → ℕ
+input_of (Streamed source) = source.units.input
+input_of (Held rest) = 0
+input_of (Sliced source) = source.input
 
 -- whether a call of the source was refused
 abbrev pub failed_of : {R : Type 0} → InputSource R → Bool

@@ -48,14 +48,14 @@ fn name_at<'a>(names: &[&'a str], index: usize, other: &'a str) -> &'a str
     }
 }
 
-/// The line of `reason` at the offset `place` of the file with the name `name`.
-fn reason_text(alloc: Global, name: &str, place: u64, reason: Reason) -> Result<String, Memory>
+/// The line of `reason` at `offset` in the file with the name `name`.
+fn reason_text(alloc: Global, name: &str, offset: u64, reason: Reason) -> Result<String, Memory>
     ensures { IfOk result (λ line.
-        string_bytes line ≡ name.now ++ codes ": " ++ decimal place ++ codes ": " ++ reason_name reason) }
+        string_bytes line ≡ name.now ++ codes ": " ++ decimal offset ++ codes ": " ++ reason_name reason) }
 {
     let mut line = String::from_str(alloc, name)?;
     line.push_str(": ")?;
-    line.push_str(Buffer::new().format(place))?;
+    line.push_str(Buffer::new().format(offset))?;
     line.push_str(": ")?;
     line.push_str(reason.name())?;
     Ok(line)

@@ -20,12 +20,12 @@ pub struct FaultyLine {
 }
 
 impl FaultyLine {
-    /// Reads the file from its beginning up to the line that begins at the offset `place`. None if a read fails, or if
+    /// Reads the file from its beginning up to the line that begins at `offset`. None if a read fails, or if
     /// the file ends before that line.
-    pub fn read<R: Read>(file: &mut R, place: u64) -> Option<FaultyLine> {
+    pub fn read<R: Read>(file: &mut R, offset: u64) -> Option<FaultyLine> {
         let mut buffer = [0u8; CHUNK];
         let mut number = 1_u64;
-        let mut left = place;
+        let mut left = offset;
         for _ in 0..u64::MAX {
             if left == 0 {
                 break;

@@ -59,10 +59,10 @@ fn total_size<F: ReadAt>(files: &[&F]) -> Result<u64, Fault>
         files.now) }
 {
     let mut total = 0_u64;
-    'files: for (number, file) in files.iter().enumerate() {
-        let size = opl_size(*file, number)?.unwrap_or(0);
+    'files: for (input, file) in files.iter().enumerate() {
+        let size = opl_size(*file, input)?.unwrap_or(0);
         if size >= LENGTH_LIMIT - total {
-            return Err(Fault::too_long(number));
+            return Err(Fault::too_long(input));
         }
         total += size;
     }
@@ -77,8 +77,8 @@ fn probe_files<F: ReadAt>(alloc: Global, files: &[&F], step: u64) -> Result<Vec<
         files.now) }
 {
     let mut found = Vec::new(alloc);
-    'files: for (number, file) in files.iter().enumerate() {
-        probe_file(alloc, *file, number, step, &mut found)?;
+    'files: for (input, file) in files.iter().enumerate() {
+        probe_file(alloc, *file, input, step, &mut found)?;
     }
     Ok(found)
 }
@@ -94,7 +94,7 @@ fn probe_file<F: ReadAt>(
     requires some { 0 < step }
     ensures found { OnOk result (FindsIn (F.bytes file.now) step found.old.items found.new.items) }
     ensures refused { IfErr result (IsFileRefusal (F.fails file.now) (F.bytes file.now)) }
-    ensures number { IfErr result (IsOfFile input) }
+    ensures input { IfErr result (IsOfFile input) }
 {
     match opl_size(file, input)? {
         Some(size) => probe_lines(alloc, file, input, size, step, found),
@@ -117,7 +117,7 @@ fn probe_lines<F: ReadAt>(
     requires size { IfSome (F.bytes file.now) (λ all. (is_opl all ≡ true) × (size ≡ length all)) }
     ensures found { OnOk result (FindsBy (F.bytes file.now) size step found.old.items found.new.items) }
     ensures refused { IfErr result (IsFileRefusal (F.fails file.now) (F.bytes file.now)) }
-    ensures number { IfErr result (IsOfFile input) }
+    ensures input { IfErr result (IsOfFile input) }
 {
     let mut lines = LinesFrom::at_end(size);
     let mut left = probe_count(step, size);

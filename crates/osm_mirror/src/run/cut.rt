@@ -32,7 +32,7 @@ pub fn cut_offset<F: ReadAt>(
     ensures cut { IfOk result (IsCutOf (F.bytes file.now) bound) }
     ensures begins { IfOk result (BeginsLinesOf (F.bytes file.now)) }
     ensures refused { IfErr result (IsCutRefusal (F.fails file.now) (F.bytes file.now)) }
-    ensures number { IfErr result (IsOfFile input) }
+    ensures input { IfErr result (IsOfFile input) }
 {
     let mut low = 0_u64;
     let mut high = match file.size() {
@@ -69,7 +69,7 @@ fn is_below(object: Option<Object>, bound: Object) -> bool
 pub(crate) fn begins_as_o5<F: ReadAt>(file: &F, input: usize, offset: u64) -> Result<bool, Fault>
     ensures begins { IfOk result (BeginsAs (F.bytes file.now) offset) }
     ensures refused { IfErr result (IsReadFailure (F.fails file.now)) }
-    ensures number { IfErr result (IsOfFile input) }
+    ensures input { IfErr result (IsOfFile input) }
 {
     let mut byte = [0u8; 1];
     match file.read_at(&mut byte, offset) {

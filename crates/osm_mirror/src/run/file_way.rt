@@ -50,7 +50,7 @@ pub(crate) struct FirstUnsorted {
     /// The number of the file.
     pub(crate) file: usize,
     /// The version's offset in the file.
-    pub(crate) place: u64,
+    pub(crate) offset: u64,
 }
 
 /// The files that are to be split into sorted runs.
@@ -65,31 +65,26 @@ pub(crate) enum FilesToSplit {
 }
 
 impl FilesToSplit {
-    /// Whether the file `number` is one of these.
-    fn has<'f, F: ReadAt, R>(
-        self,
-        alloc: Global,
-        files: &[JobFile<'f, F, R>],
-        number: usize,
-    ) -> bool
+    /// Whether the file number `file` is one of these.
+    fn has<'f, F: ReadAt, R>(self, alloc: Global, files: &[JobFile<'f, F, R>], file: usize) -> bool
         ensures { self ≡ to_split.All → result ≡ true }
     {
         match self {
-            FilesToSplit::OfFirst(first) => first.file == number,
-            FilesToSplit::Descending => match files.get(number) {
-                Some(JobFile::File(file)) => descends(alloc, *file),
+            FilesToSplit::OfFirst(first) => first.file == file,
+            FilesToSplit::Descending => match files.get(file) {
+                Some(JobFile::File(opened)) => descends(alloc, *opened),
                 _ => false,
             },
             FilesToSplit::All => true,
         }
     }
 
-    /// The offset of the first version of the file `number` that is out of order, if it is known.
-    fn place_in(self, number: usize) -> Option<u64>
-        ensures { IfSome result (λ place. self ≡ to_split.OfFirst (record { file = number; place = place })) }
+    /// The offset of the first version of the file number `file` that is out of order, if it is known.
+    fn offset_in(self, file: usize) -> Option<u64>
+        ensures { IfSome result (λ offset. self ≡ to_split.OfFirst (record { file = file; offset = offset })) }
     {
         match self {
-            FilesToSplit::OfFirst(first) if first.file == number => Some(first.place),
+            FilesToSplit::OfFirst(first) if first.file == file => Some(first.offset),
             _ => None,
         }
     }
@@ -110,42 +105,42 @@ fn first_ways<'f, F: ReadAt, R: Input>(
     ensures refused { IfErr result (AreRefused F.fails F.bytes R.can_give order files.now) }
 {
     let mut ways = Vec::new(alloc);
-    'files: for (number, file) in files.iter().enumerate() {
-        ways.push(first_way(alloc, order, file, number)?)?;
+    'files: for (input, file) in files.iter().enumerate() {
+        ways.push(first_way(alloc, order, file, input)?)?;
     }
     Ok(ways)
 }
 
-/// The way in which the first turn reads the file `number`.
+/// The way in which the first turn reads `file`, whose number is `input`.
 fn first_way<'f, F: ReadAt, R: Input>(
     alloc: Global,
     order: Order,
     file: &JobFile<'f, F, R>,
-    number: usize,
+    input: usize,
 ) -> Result<FileWay, Fault>
     ensures fits { IfOk result (FileFits F.bytes order file.now) }
-    ensures refused { IfErr result (IsRefusedFile F.fails F.bytes R.can_give order number file.now) }
+    ensures refused { IfErr result (IsRefusedFile F.fails F.bytes R.can_give order input file.now) }
 {
     match file {
         JobFile::File(file) => {
-            let size = short_size(*file, number)?;
+            let size = short_size(*file, input)?;
             FileWay::whole(alloc, Order::Sorted, size, order.is_any())
         }
         JobFile::Stream(_) => FileWay::whole(alloc, order, 0, false),
     }
 }
 
-/// The size of the file `number`, if the file isn't too long.
-fn short_size<F: ReadAt>(file: &F, number: usize) -> Result<u64, Fault>
+/// The size of `file`, whose number is `input`, if the file isn't too long.
+fn short_size<F: ReadAt>(file: &F, input: usize) -> Result<u64, Fault>
     ensures size { IfOk result (λ size. IfSome (F.bytes file.now) (λ all. length all ≡ size)) }
     ensures short { IfOk result (λ size. size < 2 ^ 62) }
-    ensures input { IfErr result (λ fault. fault.input ≡ number) }
+    ensures input { IfErr result (λ fault. fault.input ≡ input) }
     ensures refused { IfErr result (IsSizeFault (F.fails file.now) (F.bytes file.now)) }
 {
     match file.size() {
         Ok(size) if size < LENGTH_LIMIT => Ok(size),
-        Ok(_) => Err(Fault::too_long(number)),
-        Err(_) => Err(Fault::at(number, 0, Reason::ReadFault)),
+        Ok(_) => Err(Fault::too_long(input)),
+        Err(_) => Err(Fault::at(input, 0, Reason::ReadFault)),
     }
 }
 
@@ -259,66 +254,66 @@ fn split_files<'f, F: ReadAt, R: Input>(
     ensures settled { OnOk result (which ≡ to_split.All → AreSettled ways.new) }
     ensures refused { IfErr result (AreRefused F.fails F.bytes R.can_give Order.Any files.now) }
 {
-    'files: for number in 0..ways.len() {
-        if ways[number].may_be_split && which.has(alloc, files, number) {
-            split_way(alloc, files, ways, number, which.place_in(number))?;
+    'files: for file in 0..ways.len() {
+        if ways[file].may_be_split && which.has(alloc, files, file) {
+            split_way(alloc, files, ways, file, which.offset_in(file))?;
         }
     }
     Ok(())
 }
 
-/// Splits the file `number` into sorted runs. `first` is the offset of its first version that is out of order, if it is
-/// known.
+/// Splits the file number `file` into sorted runs. `first` is the offset of its first version that is out of order, if
+/// it is known.
 fn split_way<'f, F: ReadAt, R: Input>(
     alloc: Global,
     files: &[JobFile<'f, F, R>],
     ways: &mut [FileWay],
-    number: usize,
+    file: usize,
     first: Option<u64>,
 ) -> Result<(), Fault>
     requires fit { FilesFit F.bytes Order.Any files.now ways.old }
-    requires number { number < length ways.old }
-    requires first { IfSome first (λ place. IsFirstOf F.bytes files.now (record { file = number; place = place })) }
+    requires file { file < length ways.old }
+    requires first { IfSome first (λ offset. IsFirstOf F.bytes files.now (record { file = file; offset = offset })) }
     ensures fit { FilesFit F.bytes Order.Any files.now ways.new }
     ensures settled { OnOk result ((way : FileWay) × (way.may_be_split ≡ false)
-        × (ways.new ≡ set ways.old number way)) }
+        × (ways.new ≡ set ways.old file way)) }
     ensures refused { IfErr result (AreRefused F.fails F.bytes R.can_give Order.Any files.now) }
 {
-    let most = MOST_INPUTS.saturating_sub(inputs_of_others(ways, number));
-    ways[number] = split_file(alloc, &files[number], number, first, most)?;
+    let most = MOST_INPUTS.saturating_sub(inputs_of_others(ways, file));
+    ways[file] = split_file(alloc, &files[file], file, first, most)?;
     Ok(())
 }
 
-/// The number of inputs of all files but the file `number`.
-fn inputs_of_others(ways: &[FileWay], number: usize) -> usize {
+/// The number of inputs of all files but the one with the number `file`.
+fn inputs_of_others(ways: &[FileWay], file: usize) -> usize {
     let mut count = 0_usize;
     for (other, way) in ways.iter().enumerate() {
-        if other != number {
+        if other != file {
             count = count.saturating_add(way.runs.len());
         }
     }
     count
 }
 
-/// The file `number` as at most `most` sorted runs, or as one input of any order. `first` is the offset of its first
-/// version that is out of order, if it is known.
+/// `file`, whose number is `input`, as at most `most` sorted runs, or as one input of any order. `first` is the offset
+/// of its first version that is out of order, if it is known.
 fn split_file<'f, F: ReadAt, R: Input>(
     alloc: Global,
     file: &JobFile<'f, F, R>,
-    number: usize,
+    input: usize,
     first: Option<u64>,
     most: usize,
 ) -> Result<FileWay, Fault>
     requires first { IfSome first (IsFirstIn F.bytes file.now) }
     ensures fits { IfOk result (FileFits F.bytes Order.Any file.now) }
     ensures settled { IfOk result (λ way. way.may_be_split ≡ false) }
-    ensures refused { IfErr result (IsRefusedFile F.fails F.bytes R.can_give Order.Any number file.now) }
+    ensures refused { IfErr result (IsRefusedFile F.fails F.bytes R.can_give Order.Any input file.now) }
 {
     let JobFile::File(file) = file else {
         return FileWay::whole(alloc, Order::Any, 0, false);
     };
-    let size = short_size(*file, number)?;
-    match find_runs(alloc, *file, number, size, first, most)? {
+    let size = short_size(*file, input)?;
+    match find_runs(alloc, *file, input, size, first, most)? {
         Some(runs) => Ok(FileWay {
             order: Order::Sorted,
             runs,

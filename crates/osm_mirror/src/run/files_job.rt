@@ -153,18 +153,18 @@ fn first_unsorted(outcome: &Result<Counts, Fault>, ways: &[FileWay]) -> Option<F
         Err(fault) if fault.reason == Reason::Unsorted && may_be_split(ways, fault.input) => {
             Some(FirstUnsorted {
                 file: fault.input,
-                place: fault.place,
+                offset: fault.place,
             })
         }
         _ => None,
     }
 }
 
-/// Whether the file `number` may be split.
-fn may_be_split(ways: &[FileWay], number: usize) -> bool
-    ensures { IsTrue result ↔ MayBeSplit ways.now number }
+/// Whether the file number `file` may be split.
+fn may_be_split(ways: &[FileWay], file: usize) -> bool
+    ensures { IsTrue result ↔ MayBeSplit ways.now file }
 {
-    match ways.get(number) {
+    match ways.get(file) {
         Some(way) => way.may_be_split,
         None => false,
     }

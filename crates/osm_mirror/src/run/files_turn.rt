@@ -102,8 +102,8 @@ fn push_runs<'f, F: ReadAt, R: Input + Drop>(
         (JobFile.File file.entry) way.now inputs.old.items inputs.new.items) }
     ensures memory { IfErr result (λ fault. fault ≡ memory_fault) }
 {
-    'runs: for number in 0..way.runs.len() {
-        let run = way.runs[number];
+    'runs: for index in 0..way.runs.len() {
+        let run = way.runs[index];
         let reader = FileInput::Extent(FramedExtent::of_run(file, way.size, run));
         let read_as = way.order.read_as();
         inputs.push(InputFile { reader, read_as })?;
@@ -118,10 +118,10 @@ fn fault_of_file(ways: &[FileWay], fault: Fault) -> Fault
     ensures place { fault.place < 2 ^ 64 }
 {
     let mut input = fault.input;
-    'files: for number in 0..ways.len() {
-        let runs = &ways[number].runs;
+    'files: for file in 0..ways.len() {
+        let runs = &ways[file].runs;
         if let Some(run) = runs.as_slice().get(input) {
-            return Fault::at(number, run.offset_in_file(fault.place), fault.reason);
+            return Fault::at(file, run.offset_in_file(fault.place), fault.reason);
         }
         input = input.saturating_sub(runs.len());
     }

@@ -56,7 +56,7 @@ pub(crate) fn lines_before<F: ReadAt>(
     ensures lines { IfOk result (AreLinesOf (F.bytes file.now)) }
     ensures offset { IfOk result (λ lines. lines.offset ≡ offset) }
     ensures refused { IfErr result (IsCutRefusal (F.fails file.now) (F.bytes file.now)) }
-    ensures number { IfErr result (IsOfFile input) }
+    ensures input { IfErr result (IsOfFile input) }
 {
     let start = line_start(file, input, offset, later.offset)?;
     if start >= later.offset {

@@ -23,8 +23,8 @@ pub(crate) fn descends<F: ReadAt>(alloc: Global, file: &F) -> bool {
         return false;
     }
     let mut last: Option<Object> = None;
-    for number in 0..PROBES {
-        if let Some(object) = object_near(alloc, file, size / PROBES * number) {
+    for index in 0..PROBES {
+        if let Some(object) = object_near(alloc, file, size / PROBES * index) {
             if last.is_some_and(|last| object.order(&last).is_lt()) {
                 return true;
             }

@@ -31,7 +31,7 @@ pub(crate) struct FileExtent {
 pub(crate) fn opl_size<F: ReadAt>(file: &F, input: usize) -> Result<Option<u64>, Fault>
     ensures size { IfOk result (IsOplSize (F.bytes file.now)) }
     ensures refused { IfErr result (IsReadFailure (F.fails file.now)) }
-    ensures number { IfErr result (IsOfFile input) }
+    ensures input { IfErr result (IsOfFile input) }
 {
     if begins_as_o5(file, input, 0)? {
         Ok(None)
@@ -44,7 +44,7 @@ pub(crate) fn opl_size<F: ReadAt>(file: &F, input: usize) -> Result<Option<u64>,
 fn size_of<F: ReadAt>(file: &F, input: usize) -> Result<u64, Fault>
     ensures size { IfOk result (λ size. IfSome (F.bytes file.now) (λ all. size ≡ length all)) }
     ensures refused { IfErr result (IsReadFailure (F.fails file.now)) }
-    ensures number { IfErr result (IsOfFile input) }
+    ensures input { IfErr result (IsOfFile input) }
 {
     match file.size() {
         Ok(size) => Ok(size),
@@ -68,7 +68,7 @@ pub(crate) fn extent_of<F: ReadAt>(
     requires ascends { is_ascending span ≡ true }
     ensures extent { IfOk result (IsExtentOf span (F.bytes file.now)) }
     ensures refused { IfErr result (IsFileRefusal (F.fails file.now) (F.bytes file.now)) }
-    ensures number { IfErr result (IsOfFile input) }
+    ensures input { IfErr result (IsOfFile input) }
 {
     let size = size_of(file, input)?;
     if is_read_whole(file, input, size)? {
@@ -100,7 +100,7 @@ pub(crate) fn extent_of<F: ReadAt>(
 fn is_read_whole<F: ReadAt>(file: &F, input: usize, size: u64) -> Result<bool, Fault>
     ensures lines { IfOk result (λ is_whole. is_whole ≡ false → BeginsAs (F.bytes file.now) 0 false) }
     ensures refused { IfErr result (IsReadFailure (F.fails file.now)) }
-    ensures number { IfErr result (IsOfFile input) }
+    ensures input { IfErr result (IsOfFile input) }
 {
     if size <= SMALL_SIZE {
         return Ok(true);
@@ -117,7 +117,7 @@ fn begin<F: ReadAt>(
 ) -> Result<u64, Fault>
     ensures begins { IfOk result (BeginsAtOf (F.bytes file.now) bound) }
     ensures refused { IfErr result (IsCutRefusal (F.fails file.now) (F.bytes file.now)) }
-    ensures number { IfErr result (IsOfFile input) }
+    ensures input { IfErr result (IsOfFile input) }
 {
     match bound {
         None => Ok(0),
@@ -136,7 +136,7 @@ fn end<F: ReadAt>(
     requires size { IfSome (F.bytes file.now) (λ all. size ≡ length all) }
     ensures ends { IfOk result (EndsAtOf (F.bytes file.now) bound) }
     ensures refused { IfErr result (IsCutRefusal (F.fails file.now) (F.bytes file.now)) }
-    ensures number { IfErr result (IsOfFile input) }
+    ensures input { IfErr result (IsOfFile input) }
 {
     match bound {
         None => Ok(size),

@@ -195,8 +195,8 @@ fn open_extents<'f, F: ReadAt>(
     let Some(span) = span else {
         return Ok(inputs);
     };
-    'files: for (number, file) in files.iter().enumerate() {
-        let extent = extent_of(alloc, *file, number, span)?;
+    'files: for (input, file) in files.iter().enumerate() {
+        let extent = extent_of(alloc, *file, input, span)?;
         extents.push(extent)?;
         inputs.push(open_extent(*file, span, extent))?;
     }

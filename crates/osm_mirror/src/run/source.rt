@@ -25,7 +25,7 @@ pub enum InputSource<R: Input> {
 }
 
 impl<R: Input> Source for InputSource<R> {
-    ghost use Rattle.osm_mirror.specs.run.SourceRest.{SourceCanGive, source_one, left_of, number_of, failed_of};
+    ghost use Rattle.osm_mirror.specs.run.SourceRest.{SourceCanGive, source_one, left_of, input_of, failed_of};
     ghost use Rattle.osm_mirror.specs.run.SourceRest.{source_possible, source_ascends};
 
     ghost can_give = { λ s still. SourceCanGive R.can_give s still };
@@ -34,7 +34,7 @@ impl<R: Input> Source for InputSource<R> {
 
     ghost left = { λ s. left_of s };
 
-    ghost number = { λ s. number_of s };
+    ghost input = { λ s. input_of s };
 
     ghost has_failed = { λ s. failed_of s };
 
@@ -91,69 +91,69 @@ fn push_input<R: Input + Drop>(
 ) -> Result<(), Fault>
     ensures pushed { OnOk result ((source : _) × (sources.new.items ≡ sources.old.items ++ source ∷ [])
         × IsOpened R.can_give (length sources.old.items) file source) }
-    ensures refused { IfErr result (λ fault. GivesOne (InputFileCanGive R.can_give file) (λ input.
-        IsUnopened (length sources.old.items) (input ∷ []) fault)) }
+    ensures refused { IfErr result (λ fault. GivesOne (InputFileCanGive R.can_give file) (λ given.
+        IsUnopened (length sources.old.items) (given ∷ []) fault)) }
 {
     Ok(sources.push(open_input(alloc, sources.len(), count, file)?)?)
 }
 
-/// The file as the source of the input `number`, which is one of `count` inputs.
+/// The file as the source of the input number `input`, which is one of `count` inputs.
 fn open_input<R: Input + Drop>(
     alloc: Global,
-    number: usize,
+    input: usize,
     count: usize,
     file: InputFile<R>,
 ) -> Result<InputSource<R>, Fault>
-    ensures opened { IfOk result (λ source. IsOpened R.can_give number file source) }
-    ensures refused { IfErr result (λ fault. GivesOne (InputFileCanGive R.can_give file) (λ input.
-        IsUnopened number (input ∷ []) fault)) }
+    ensures opened { IfOk result (λ source. IsOpened R.can_give input file source) }
+    ensures refused { IfErr result (λ fault. GivesOne (InputFileCanGive R.can_give file) (λ given.
+        IsUnopened input (given ∷ []) fault)) }
 {
     match file.read_as {
-        ReadAs::Sorted => stream(alloc, number, count, file.reader),
-        ReadAs::Any => load(alloc, number, file.reader),
-        ReadAs::Within(span, outside) => slice(alloc, number, count, span, outside, file.reader),
+        ReadAs::Sorted => stream(alloc, input, count, file.reader),
+        ReadAs::Any => load(alloc, input, file.reader),
+        ReadAs::Within(span, outside) => slice(alloc, input, count, span, outside, file.reader),
     }
 }
 
-/// A sorted file as the source of the input `number`, which is one of `count` inputs. The call reads nothing.
+/// A sorted file as the source of the input number `input`, which is one of `count` inputs. The call reads nothing.
 fn stream<R: Input + Drop>(
     alloc: Global,
-    number: usize,
+    input: usize,
     count: usize,
     reader: R,
 ) -> Result<InputSource<R>, Fault>
-    ensures opened { IfOk result (λ source. IsOpened R.can_give number (file_as read_as.Sorted reader) source) }
+    ensures opened { IfOk result (λ source. IsOpened R.can_give input (file_as read_as.Sorted reader) source) }
     ensures memory { IfErr result (λ fault. fault ≡ memory_fault) }
 {
-    let source = FileSource::with_peers(alloc, number, reader, count)?;
+    let source = FileSource::with_peers(alloc, input, reader, count)?;
     Ok(InputSource::Streamed(source))
 }
 
-/// A sorted file within a span as the source of the input `number`, which is one of `count` inputs. The call reads
-/// nothing.
+/// A sorted file within a span as the source of the input number `input`, which is one of `count` inputs. The call
+/// reads nothing.
 fn slice<R: Input + Drop>(
     alloc: Global,
-    number: usize,
+    input: usize,
     count: usize,
     span: Span,
     outside: Outside,
     reader: R,
 ) -> Result<InputSource<R>, Fault>
     ensures opened { IfOk result (λ source.
-        IsOpened R.can_give number (file_as (read_as.Within span outside) reader) source) }
+        IsOpened R.can_give input (file_as (read_as.Within span outside) reader) source) }
     ensures memory { IfErr result (λ fault. fault ≡ memory_fault) }
 {
-    let within = FileSource::with_peers(alloc, number, reader, count)?;
-    Ok(InputSource::Sliced(Within::new(outside, span, number, within)))
+    let within = FileSource::with_peers(alloc, input, reader, count)?;
+    Ok(InputSource::Sliced(Within::new(outside, span, input, within)))
 }
 
-/// A file of any order as the source of the input `number`. The call reads the file to its end.
-fn load<R: Input + Drop>(alloc: Global, number: usize, reader: R) -> Result<InputSource<R>, Fault>
-    ensures opened { IfOk result (λ source. IsOpened R.can_give number (file_as read_as.Any reader) source) }
+/// A file of any order as the source of the input number `input`. The call reads the file to its end.
+fn load<R: Input + Drop>(alloc: Global, input: usize, reader: R) -> Result<InputSource<R>, Fault>
+    ensures opened { IfOk result (λ source. IsOpened R.can_give input (file_as read_as.Any reader) source) }
     ensures refused { IfErr result (λ fault.
-        GivesOne (InputFileCanGive R.can_give (file_as read_as.Any reader)) (λ input.
-        IsUnopened number (input ∷ []) fault)) }
+        GivesOne (InputFileCanGive R.can_give (file_as read_as.Any reader)) (λ given.
+        IsUnopened input (given ∷ []) fault)) }
 {
-    let loaded = load_any(alloc, number, reader)?;
+    let loaded = load_any(alloc, input, reader)?;
     Ok(InputSource::Held(HistorySource::new(loaded.history)))
 }

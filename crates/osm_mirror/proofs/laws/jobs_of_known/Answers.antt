@@ -1,5 +1,5 @@
-use Rattle.osm_mirror.proofs.run_laws.KnownLaws.{runs_known}
+use Rattle.osm_mirror.proofs.run_laws.KnownLaws.{jobs_known}
 use Rattle.osm_mirror.proofs.laws.jobs_of_known.Goals as goal
 
 pub returns : goal.returns
-returns g c = runs_known g.R.Input.can_give g.W.Output
+returns g c = jobs_known g.R.Input.can_give g.W.Output

@@ -11,6 +11,6 @@ pub returns-clause-merges : goal.returns-clause-merges
 returns-clause-merges g c = λ all format before after counts.
     writes_set GivesSorted (λ set. set) IsBounded all format (change_of g.W.Output before after) counts
 
-pub returns-clause-runs : goal.returns-clause-runs
-returns-clause-runs g c = λ selection all format before after counts.
+pub returns-clause-jobs : goal.returns-clause-jobs
+returns-clause-jobs g c = λ selection all format before after counts.
     writes_set GivesAs (selection_of selection) (IsBoundedFor selection) all format (change_of g.W.Output before after) counts

@@ -5,7 +5,7 @@ use opl_line::OplReason;
 use osm_files::{Fault, Reason};
 use std::alloc::Global;
 
-/// Whether the fault of a run with two inputs has the line `line`.
+/// Whether the fault of a job with two inputs has the line `line`.
 fn is_line(alloc: Global, fault: Fault, line: &str) -> bool {
     match fault_text(alloc, &fault, &["a.opl", "b.o5m"], "o.opl") {
         Ok(text) => text.as_str() == line,

@@ -1,4 +1,4 @@
-//! The line about a run.
+//! The line about a job.
 use super::{JobSummary, JobTally};
 use crate::run::{Command, ReadAs, files_as, run_selected};
 use osm_files::{Fault, Format, SliceIn, VecOut};

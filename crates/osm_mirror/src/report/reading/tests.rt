@@ -1,4 +1,4 @@
-//! The texts of reports during a run.
+//! The texts of reports during a job.
 use super::BytesRead;
 
 #[test]

@@ -1,4 +1,4 @@
-//! Runs over open files and streams, and the numbers of their turns.
+//! Jobs over open files and streams, and the numbers of their turns.
 use super::{FilesJob, JobFile, Order, run_files};
 use osm_files::{Broken, ClearOutput, Format, Output, SliceIn, VecOut};
 use osm_merge::{Progress, Relation, Selection};
@@ -20,7 +20,7 @@ const FAULTY: &[u8] = b"n7 v1 dD\nn7\n";
 /// A file in which no line but the first begins where it may be split.
 const MANY: &[u8] = b"n9 v1 dD\nn8 v1 dD\nn7 v1 dD\nn6 v1 dD\n";
 
-/// The number of turns of a run.
+/// The number of turns of a job.
 #[derive(Clone, Copy)]
 struct Turns(usize);
 
@@ -67,7 +67,7 @@ impl ClearOutput for Memory {
     }
 }
 
-/// The ways in which a run reads and writes.
+/// The ways in which a job reads and writes.
 #[derive(Clone, Copy)]
 struct Setting {
     order: Order,
@@ -75,15 +75,15 @@ struct Setting {
     can_be_cleared: bool,
 }
 
-/// The files as files of a run. The last one is a stream if `has_stream` is set.
+/// The files as files of a job. The last one is a stream if `has_stream` is set.
 fn files_of<'f>(
     alloc: Global,
     files: &'f [&'f [u8]],
     has_stream: bool,
 ) -> Vec<JobFile<'f, &'f [u8], SliceIn<'f>>> {
     let mut inputs = Vec::new(alloc);
-    for (number, file) in files.iter().enumerate() {
-        let is_last = number + 1 == files.len();
+    for (index, file) in files.iter().enumerate() {
+        let is_last = index + 1 == files.len();
         let _ = inputs.push(if has_stream && is_last {
             JobFile::Stream(SliceIn::new(*file))
         } else {
@@ -93,7 +93,7 @@ fn files_of<'f>(
     inputs
 }
 
-/// The number of turns of a run over `files`, and its output, or its fault and the number of bytes written.
+/// The number of turns of a job over `files`, and its output, or its fault and the number of bytes written.
 fn outcome(alloc: Global, files: &[&[u8]], setting: Setting) -> String {
     let mut out = Memory {
         out: VecOut::new(alloc),

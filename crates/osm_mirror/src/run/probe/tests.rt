@@ -11,8 +11,8 @@ fn push_node(file: &mut Vec<u8>, id: u64) -> Result<(), AllocError> {
     let front = b"n0000000000 v1 dD c1 t2020-01-01T00:00:00Z i1 u";
     line[..front.len()].copy_from_slice(front);
     let mut rest = id;
-    for place in 0..10_usize {
-        line[10 - place] = b'0' + (rest % 10) as u8;
+    for index in 0..10_usize {
+        line[10 - index] = b'0' + (rest % 10) as u8;
         rest /= 10;
     }
     line[LINE - 1] = b'\n';

@@ -1,4 +1,4 @@
-//! The runs of requests.
+//! The jobs of requests.
 use super::{Command, FileRequest, RequestFault};
 use crate::run::files_job::{FilesJob, Order};
 use osm_files::Format;

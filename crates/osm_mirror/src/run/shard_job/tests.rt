@@ -1,4 +1,4 @@
-//! Runs for shards.
+//! Jobs for shards.
 use super::{ShardJob, run_shard};
 use crate::run::shard::Shard;
 use osm_files::{Format, VecOut};

@@ -1,4 +1,4 @@
-//! Runs for slices.
+//! Jobs for slices.
 use super::{Slice, SliceFile, run_slice};
 use osm_files::{Format, SliceIn, VecOut};
 use osm_merge::{NoProgress, Outside, Selection, Span};
@@ -8,7 +8,7 @@ use std::alloc::Global;
 /// Versions of three nodes.
 const FILE: &[u8] = b"n1 v1 dD\nn2 v1 dD\nn3 v1 dD\n";
 
-/// The bytes that a run for the second node writes of a file, or the run's fault.
+/// The bytes that a job for the second node writes of a file, or the job's fault.
 fn slice_text(alloc: Global, file: &[u8], outside: Outside) -> String {
     let mut text = String::new(alloc);
     let mut inputs = Vec::new(alloc);

@@ -1,8 +1,8 @@
 use Rattle.std.proofs.Common.{List, ℕ, Option, take, Bor, arith, sym, subst}
 use Rattle.std.proofs.lemmas.List.{take_all}
 use Rattle.std.proofs.lemmas.Result.{err_from_is_err_and}
+use Rattle.osm_files.proofs.SinkLaws.{front_at}
 use Rattle.osm_mirror.specs.run.Probes.{FindsInAll}
-use Rattle.osm_mirror.proofs.run_laws.FilesJobLaws.{take_more}
 use Rattle.osm_mirror.proofs.run_laws.ProbeLaws.{all_more}
 use Rattle.osm_mirror.proofs.run_laws.SpanJobLaws.{one_refused}
 use Rattle.osm_mirror.proofs.run_laws.WayLaws.{get_slice}
@@ -13,17 +13,17 @@ pub files-preserved : goal.files-preserved
 files-preserved g c =
     let known : Bor g.row.F.Denot → Option (List ℕ) = λ file. g.F.ReadAt.bytes file.now in
     let files = c.args.files.now in
-    let file = c.index-files-number.result in
-    let more = take_more files c.files.number file (omega (arith, c.files-test.true)) c.index-files-number.is in
+    let file = c.index-files-input.result in
+    let more = front_at files c.files.input file (omega (arith, c.files-test.true)) c.index-files-input.is in
     subst (λ fs. FindsInAll known c.args.step fs c.probe_file.new.found.items) (sym more)
-    (all_more known c.args.step (take c.files.number files) file c.files.found.items c.probe_file.new.found.items c.files.invariant
+    (all_more known c.args.step (take c.files.input files) file c.files.found.items c.probe_file.new.found.items c.files.invariant
     c.in_ok-probe_file.ensures.found)
 
 pub returns-clause-found : goal.returns-clause-found
 returns-clause-found g c =
     let known : Bor g.row.F.Denot → Option (List ℕ) = λ file. g.F.ReadAt.bytes file.now in
     let files = c.args.files.now in
-    let whole = take_all c.files.number files (omega (arith, c.files-test.false)) in
+    let whole = take_all c.files.input files (omega (arith, c.files-test.false)) in
     subst (λ fs. FindsInAll known c.args.step fs c.files.found.items) whole c.files.invariant
 
 pub returns-in_err-probe_file-clause-refused : goal.returns-in_err-probe_file-clause-refused
@@ -31,8 +31,8 @@ returns-in_err-probe_file-clause-refused g c =
     let known : Bor g.row.F.Denot → Option (List ℕ) = λ file. g.F.ReadAt.bytes file.now in
     let fails : Bor g.row.F.Denot → Type 0 = λ file. g.F.ReadAt.fails file.now in
     let files = c.args.files.now in
-    let file = c.index-files-number.result in
-    let at = get_slice files c.files.number file (omega (arith, c.files-test.true)) c.index-files-number.is in
+    let file = c.index-files-input.result in
+    let at = get_slice files c.files.input file (omega (arith, c.files-test.true)) c.index-files-input.is in
     let p = err_from_is_err_and c.from_residual.result c.from_residual.ensures.1 in
-    rw (p.1, p.2) (one_refused known fails IsFileRefusal files c.files.number file _ at c.in_err-probe_file.ensures.number
+    rw (p.1, p.2) (one_refused known fails IsFileRefusal files c.files.input file _ at c.in_err-probe_file.ensures.input
     c.in_err-probe_file.ensures.refused)

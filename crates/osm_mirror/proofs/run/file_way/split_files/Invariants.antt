@@ -7,4 +7,4 @@ use Rattle.osm_mirror.proofs.run.file_way.split_files.Given as goal
 
 abbrev pub invariant-files : goal.invariant-files
 invariant-files g l = FilesFit g.F.ReadAt.bytes Any l.files l.ways × (length l.ways ≡ length l.fn.ways)
-    × (l.which ≡ to_split.All → AreSettled (take l.number l.ways))
+    × (l.which ≡ to_split.All → AreSettled (take l.file l.ways))

@@ -6,25 +6,24 @@ use Rattle.osm_mirror.proofs.run_laws.FilesJobLaws.{pairwise_length, pairwise_se
 use Rattle.osm_mirror.proofs.run_laws.WayLaws.{get_slice, first_at, among_files}
 use Rattle.osm_mirror.proofs.run.file_way.split_way.Goals as goal
 
-pub offset_bounds-files-number : goal.offset_bounds-files-number
-offset_bounds-files-number g c =
+pub offset_bounds-files-file : goal.offset_bounds-files-file
+offset_bounds-files-file g c =
     let same = pairwise_length (FileFits g.F.ReadAt.bytes Any) c.args.files.now c.args.ways.now c.requires.fit in
-    omega (arith, c.requires.number, same)
+    omega (arith, c.requires.file, same)
 
-pub bounds-files-number : goal.bounds-files-number
-bounds-files-number g c =
+pub bounds-files-file : goal.bounds-files-file
+bounds-files-file g c =
     let same = pairwise_length (FileFits g.F.ReadAt.bytes Any) c.args.files.now c.args.ways.now c.requires.fit in
-    omega (arith, c.requires.number, same)
+    omega (arith, c.requires.file, same)
 
 pub split_file-requires : goal.split_file-requires
 split_file-requires g c =
     let files = c.args.files.now in
-    let number = c.args.number in
     let same = pairwise_length (FileFits g.F.ReadAt.bytes Any) files c.args.ways.now c.requires.fit in
-    let file = c.index-files-number.result in
+    let found = c.index-files-file.result in
     record {
-      first = first_at g.F.ReadAt.bytes files number file c.args.first
-          (get_slice files number file (omega (arith, c.requires.number, same)) c.index-files-number.is) c.requires.first;
+      first = first_at g.F.ReadAt.bytes files c.args.file found c.args.first
+          (get_slice files c.args.file found (omega (arith, c.requires.file, same)) c.index-files-file.is) c.requires.first;
     }
 
 pub returns-in_err-ways-clause-refused : goal.returns-in_err-ways-clause-refused
@@ -33,12 +32,12 @@ returns-in_err-ways-clause-refused g c =
     let same = pairwise_length (FileFits g.F.ReadAt.bytes Any) files c.args.ways.now c.requires.fit in
     let p = err_from_is_err_and c.from_residual.result c.from_residual.ensures.1 in
     rw (p.1, p.2)
-    (among_files g.F.ReadAt.fails g.F.ReadAt.bytes g.R.Input.can_give Any files c.args.number c.index-files-number.result
-    c.in_err-ways.field-0.0 (omega (arith, c.requires.number, same)) c.index-files-number.is c.in_err-ways.ensures.refused)
+    (among_files g.F.ReadAt.fails g.F.ReadAt.bytes g.R.Input.can_give Any files c.args.file c.index-files-file.result
+    c.in_err-ways.field-0.0 (omega (arith, c.requires.file, same)) c.index-files-file.is c.in_err-ways.ensures.refused)
 
 pub returns-clause-fit : goal.returns-clause-fit
 returns-clause-fit g c =
     let files = c.args.files.now in
     let same = pairwise_length (FileFits g.F.ReadAt.bytes Any) files c.args.ways.now c.requires.fit in
-    pairwise_set (FileFits g.F.ReadAt.bytes Any) files c.args.ways.now c.args.number c.index-files-number.result c.in_ok-ways.field-0
-    c.requires.fit (omega (arith, c.requires.number, same)) c.index-files-number.is c.in_ok-ways.ensures.fits
+    pairwise_set (FileFits g.F.ReadAt.bytes Any) files c.args.ways.now c.args.file c.index-files-file.result c.in_ok-ways.field-0
+    c.requires.fit (omega (arith, c.requires.file, same)) c.index-files-file.is c.in_ok-ways.ensures.fits

@@ -5,9 +5,9 @@ use Rattle.osm_model.proofs.PairwiseLaws.{pairwise_push}
 use Rattle.osm_files.specs.declared.file_input.FileInput.TheVariants.{Extent}
 use Rattle.osm_files.specs.declared.sorted_run.SortedRun.{SortedRun}
 use Rattle.osm_files.specs.FileInput.{FileInputCanGive}
+use Rattle.osm_files.proofs.SinkLaws.{front_at}
 use Rattle.osm_mirror.specs.declared.run.input.InputFile.{InputFile}
 use Rattle.osm_mirror.specs.run.FilesJob.{OpensRun}
-use Rattle.osm_mirror.proofs.run_laws.FilesJobLaws.{take_more}
 use Rattle.osm_mirror.proofs.run.files_turn.push_runs.Goals as goal
 
 pub runs-preserved : goal.runs-preserved
@@ -16,16 +16,16 @@ runs-preserved g c =
     let way = c.args.way.now in
     let Opens : InputFile _ → SortedRun → Type 0 =
     OpensRun gives (g.F.ReadAt.fails c.args.file.now) (g.F.ReadAt.bytes c.args.file.now) way.size way.order in
-    let number = c.runs.number in
+    let index = c.runs.index in
     let run = c.index-run.result.now in
     let file : InputFile _ = record { reader = Extent c.of_run.result; read_as = c.read_as-read_as.result } in
     let so_far = c.runs.invariant in
-    let more : take (number + 1) way.runs.items ≡ take number way.runs.items ++ run ∷ [] =
-    take_more way.runs.items number run (omega (arith, c.runs-test.true, c.len-number-end.ensures)) c.index-run.ensures in (
+    let more : take (index + 1) way.runs.items ≡ take index way.runs.items ++ run ∷ [] =
+    front_at way.runs.items index run (omega (arith, c.runs-test.true, c.len-index-end.ensures)) c.index-run.ensures in (
       so_far.0 ++ file ∷ [],
       c.in_ok-push.ensures.items ∙ ap (λ xs. xs ++ file ∷ []) so_far.1 ∙ append_assoc c.args.inputs.now.items so_far.0 (file ∷ []),
       subst (λ (rs : List SortedRun). Pairwise Opens (so_far.0 ++ file ∷ []) rs) (sym more)
-          (pairwise_push Opens so_far.0 (take number way.runs.items) file run so_far.2 (record {
+          (pairwise_push Opens so_far.0 (take index way.runs.items) file run so_far.2 (record {
             gives_run = λ given x. (c.of_run.ensures given).0 x;
             order_is = c.read_as-read_as.ensures;
           })),
@@ -37,10 +37,10 @@ returns-clause-added g c =
     let way = c.args.way.now in
     let Opens : InputFile _ → SortedRun → Type 0 =
     OpensRun gives (g.F.ReadAt.fails c.args.file.now) (g.F.ReadAt.bytes c.args.file.now) way.size way.order in
-    let number = c.runs.number in
+    let index = c.runs.index in
     let so_far = c.runs.invariant in
-    let whole : take number way.runs.items ≡ way.runs.items =
-    take_all number way.runs.items (omega (arith, c.runs-test.false, c.len-number-end.ensures)) in (
+    let whole : take index way.runs.items ≡ way.runs.items =
+    take_all index way.runs.items (omega (arith, c.runs-test.false, c.len-index-end.ensures)) in (
       so_far.0,
       so_far.1,
       subst (λ (rs : List SortedRun). Pairwise Opens so_far.0 rs) whole so_far.2,

@@ -1,5 +1,5 @@
 use Rattle.std.proofs.Common.{List, ℕ, Option, Bor, slice_get, ◌≡◌, None, Some}
-use Rattle.osm_mirror.proofs.run_laws.FilesRefusalLaws.{none_after}
+use Rattle.std.proofs.lemmas.Option.{slice_get_past}
 use Rattle.osm_mirror.proofs.run_laws.ShardJobLaws.{first_named, unnamed}
 use Rattle.osm_mirror.proofs.run_laws.WayLaws.{get_slice}
 use Rattle.osm_mirror.proofs.run.shard_job.first_fault.Goals as goal
@@ -19,5 +19,5 @@ returns-in-None-clause-file g c refused =
     let known : Bor g.row.F.Denot → Option (List ℕ) = λ file. g.F.ReadAt.bytes file.now in
     let fails : Bor g.row.F.Denot → Type 0 = λ file. g.F.ReadAt.fails file.now in
     let files = c.args.files.now in
-    let none : slice_get files c.args.fault.input ≡ None = none_after files c.args.fault.input c.in-None.ensures.lookup.3 in
+    let none : slice_get files c.args.fault.input ≡ None = slice_get_past files c.args.fault.input c.in-None.ensures.lookup.3 in
     unnamed known fails files c.args.fault none refused

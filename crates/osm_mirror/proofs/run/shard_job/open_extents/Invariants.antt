@@ -6,5 +6,5 @@ use Rattle.osm_mirror.proofs.run.shard_job.open_extents.Given as goal
 
 abbrev pub invariant-files : goal.invariant-files
 invariant-files g l = Pairwise (IsInputOf (λ file. g.F.ReadAt.bytes file.now) (λ file. g.F.ReadAt.fails file.now)
-    (FramedCanGive g.F.ReadAt.fails g.F.ReadAt.bytes) l.span) (take l.number l.files) l.inputs.items
+    (FramedCanGive g.F.ReadAt.fails g.F.ReadAt.bytes) l.span) (take l.input l.files) l.inputs.items
     × (length l.extents.items ≡ length l.fn.extents.items + length l.inputs.items)
