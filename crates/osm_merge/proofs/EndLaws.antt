@@ -12,9 +12,12 @@ use Rattle.osm_files.specs.Output.{Appends}
 use Rattle.osm_files.specs.Stream.{end_whole}
 use Rattle.osm_files.specs.Spell.{spell_list}
 use Rattle.osm_files.specs.Sink.{SinkState, CutShort, HasPut}
+use Rattle.osm_merge.specs.declared.clash_tally.ClashTally.{ClashTally}
 use Rattle.osm_merge.specs.declared.merge.Counts.{Counts}
+use Rattle.osm_merge.specs.Clashes.{clash_count}
+use Rattle.osm_merge.specs.ClashTally.{no_clashes}
 use Rattle.osm_merge.specs.ToCome.{VersionsToCome, head, rest_at}
-use Rattle.osm_merge.specs.Union.{versions_of, capped_count}
+use Rattle.osm_merge.specs.Union.{versions_of, union_given, capped_count}
 use Rattle.osm_merge.specs.declared.selection.Selection.{Selection}
 use Rattle.osm_merge.specs.Pass.{put_of, put_at_end, keeps}
 use Rattle.osm_merge.specs.declared.repeats.Repeats.{Repeats}
@@ -31,13 +34,16 @@ use Rattle.osm_merge.proofs.UnionLaws.{chosen, all_put, all_taken}
 use Rattle.osm_merge.proofs.Running.{MergeTask, output_change, SomeFirstGive, RefusesTask, IsRunning, none_met}
 use Rattle.osm_merge.proofs.HeadsLaws.{head_at, length_heads}
 use Rattle.osm_merge.proofs.CountLaws.{least_single, few_least}
+use Rattle.osm_merge.proofs.ClashLaws.{none_tallied, all_tallied}
 
 -- all versions were taken, and the selection of the union was put
-pub record IsKnownDone (selection : Selection) (all : List VersionsToCome) (put : List VersionData) (read compared : ℕ) : Type 0 where
+pub record IsKnownDone (selection : Selection) (all : List VersionsToCome) (put : List VersionData) (counts : Counts) : Type 0 where
   pub union_is : chosen selection all ≡ put
   pub ends_whole : All (λ c. c.refusal ≡ None) all
-  pub read_is : read ≡ capped_count (length (versions_of all))
-  pub bounded : IsBoundedFrom (few_of selection (length (versions_of all))) (length all) (length (versions_of all)) compared
+  pub read_is : counts.read ≡ capped_count (length (versions_of all))
+  pub bounded :
+      IsBoundedFrom (few_of selection (length (versions_of all))) (length all) (length (versions_of all)) counts.compared
+  pub clashes_is : counts.clashes ≡ capped_count (clash_count (union_given all))
 
 -- the merge before the file is ended
 pub record IsDone {S O : Type 0} (task : MergeTask S O) (last : Option VersionData) (sink : SinkState) (now : O) (counts : Counts)
@@ -49,7 +55,7 @@ pub record IsDone {S O : Type 0} (task : MergeTask S O) (last : Option VersionDa
   pub ascends : IsStrictlySortedBy version_cmp put
   pub written_is : counts.written ≡ capped_count (length so_far)
   pub shown :
-      SomeFirstGive task (λ all. IsKnownDone task.selection all put counts.read counts.compared)
+      SomeFirstGive task (λ all. IsKnownDone task.selection all put counts)
 
 none_left : (heads : List (Option VersionData)) (nodes : List ℕ) (w : ℕ) → IsTree heads nodes 1 0 → w ≡ get_or nodes 1 0
     → get_or heads w None ≡ None → (i : ℕ) → get_or heads i None ≡ None
@@ -63,11 +69,11 @@ none_left heads nodes w t top at_w i =
 
 -- If no head is left, the merge is done up to the end of its file.
 pub run_done : {S O : Type 0} {task : MergeTask S O} {heads : List (Option VersionData)} {nodes : List ℕ} {sources : List S}
-    {sink : SinkState} {now : O} {last : Option VersionData} {counts : Counts} {repeats : Repeats}
-    (r : IsRunning task heads nodes sources sink now last counts repeats) (w : ℕ) → w ≡ get_or nodes 1 0 → get_or heads w None ≡ None
+    {sink : SinkState} {now : O} {last : Option VersionData} {counts : Counts} {repeats : Repeats} {tally : ClashTally}
+    (r : IsRunning task heads nodes sources sink now last counts repeats tally) (w : ℕ) → w ≡ get_or nodes 1 0 → get_or heads w None ≡ None
     → IsDone task last sink now counts
-run_done {task = task} {heads = heads} {nodes = nodes} {sources = sources} {last = last} {counts = counts} {repeats = repeats} r w
-    top at_w =
+run_done {task = task} {heads = heads} {nodes = nodes} {sources = sources} {last = last} {counts = counts} {repeats = repeats}
+    {tally = tally} r w top at_w =
     let none = none_left heads nodes w r.tree top at_w in
     let q = r.run (map task.source.one sources) (give_one task.source.can_give task.source.one task.source.possible sources) in
     record {
@@ -105,6 +111,7 @@ run_done {task = task} {heads = heads} {nodes = nodes} {sources = sources} {last
                     (λ p. subst (λ t. capped_count (t - 1) ≤ counts.compared) taken_is
                     (least_single (2 ^ 64 - 1) r.taken (comparison_count repeats) counts.compared (r.least p)));
               };
+              clashes_is = r.clashes_is ∙ all_tallied all s.states r.top tally s.tallying no_head;
             },
       );
     }
@@ -112,9 +119,9 @@ run_done {task = task} {heads = heads} {nodes = nodes} {sources = sources} {last
 -- the case of no sources
 pub none_done : {S O : Type 0} (task : MergeTask S O) (sink : SinkState) (now : O) (counts : Counts)
     → length task.first_heads ≡ 0 → HasPut task.format task.number [] (output_change task now) sink
-    → counts.read ≡ 0 → counts.written ≡ 0 → counts.compared ≤ length task.first_heads - 1
+    → counts.read ≡ 0 → counts.written ≡ 0 → counts.compared ≤ length task.first_heads - 1 → counts.clashes ≡ 0
     → IsDone task None sink now counts
-none_done task sink now counts empty has none_read none_written few =
+none_done task sink now counts empty has none_read none_written few no_clash =
     record {
       so_far = [];
       put = put_of task.selection [] ++ put_at_end task.selection None;
@@ -139,6 +146,7 @@ none_done task sink now counts empty has none_read none_written few =
                     least = few_least task.selection (length (versions_of all)) counts.compared
                         (λ p. subst (λ t. capped_count (t - 1) ≤ counts.compared) taken_is (omega arith));
                   };
+              clashes_is = no_clash ∙ all_tallied all all None no_clashes (none_tallied all) no_head;
             },
       );
     }
@@ -154,6 +162,7 @@ module _ {S O : Type 0} {task : MergeTask S O} {last : Option VersionData} {sink
       IfOk result (λ done. done.read ≡ counts.read)
       × IfOk result (λ done. CountsMore more counts.written done.written)
       × IfOk result (λ done. done.compared ≡ counts.compared)
+      × IfOk result (λ done. done.clashes ≡ counts.clashes)
 
   -- If the end of the file is written, the merge is done.
   pub end_merged : (result : Result Counts Fault) → EndsFile task.output more sink now after result → Counted result
@@ -174,6 +183,7 @@ module _ {S O : Type 0} {task : MergeTask S O} {last : Option VersionData} {sink
           compared =
               subst (λ (n : ℕ). IsBoundedFrom (few_of task.selection (length (versions_of all))) (length all) (length (versions_of all)) n)
               (sym is.2) t.bounded;
+          clashes = is.3 ∙ t.clashes_is;
         },
   )
   end_merged (Err fault) ends is = tt

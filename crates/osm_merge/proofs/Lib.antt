@@ -11,6 +11,8 @@ mod State
 pub mod Settling
 mod MergeLaws
 pub mod UnionLaws
+pub mod KeyLaws
+mod ClashLaws
 mod RepeatLaws
 mod HeadsLaws
 mod CountLaws

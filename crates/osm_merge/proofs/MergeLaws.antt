@@ -35,7 +35,8 @@ or_swap false b c = refl
 abbrev pub without_head : List VersionsToCome → ℕ → List VersionsToCome
 without_head states w = set states w (after_head (rest_at states w))
 
-any_taken : (p : VersionData → Bool) (states : List VersionsToCome) (w : ℕ) (v : VersionData) (vs : List VersionData) →
+-- A test applies to the head of one of the sources, or to the other versions to come.
+pub any_taken : (p : VersionData → Bool) (states : List VersionsToCome) (w : ℕ) (v : VersionData) (vs : List VersionData) →
     (rest_at states w).list ≡ v ∷ vs → list_any p (versions_of states) ≡ (p v || list_any p (versions_of (without_head states w)))
 any_taken p [] w v vs e = absurd cc
 any_taken p (c ∷ cs) zero v vs e = ap (λ t. list_any p (t ++ versions_of cs)) e
@@ -70,7 +71,8 @@ floor_of : (v : VersionData) (vs : List VersionData) → IsHeadUpTo (Some v) (fi
 floor_of v [] h k = tt
 floor_of v (w ∷ vs) h k = floor_first version_cmp_total v w vs h k
 
-floor_one : (last : Option VersionData) (v : VersionData) (vs : List VersionData) → Floor last (v ∷ vs) → Floor last (v ∷ [])
+-- The floor of a list is a floor of its first version.
+pub floor_one : (last : Option VersionData) (v : VersionData) (vs : List VersionData) → Floor last (v ∷ vs) → Floor last (v ∷ [])
 floor_one None v vs h = tt
 floor_one (Some l) v vs h = (h.0, tt)
 

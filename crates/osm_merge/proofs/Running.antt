@@ -15,6 +15,8 @@ use Rattle.osm_files.specs.Input.{Explained}
 use Rattle.osm_merge.specs.declared.merge.Counts.{Counts}
 use Rattle.osm_merge.specs.ToCome.{VersionsToCome, AllAscend, AreHeadsOf}
 use Rattle.osm_merge.specs.Giving.{AllGive, SomePendingGive}
+use Rattle.osm_merge.specs.declared.clash_tally.ClashTally.{ClashTally}
+use Rattle.osm_merge.specs.ClashTally.{no_clashes}
 use Rattle.osm_merge.specs.Merged.{IsRefusedAs}
 use Rattle.osm_merge.specs.Union.{capped_count}
 use Rattle.osm_merge.specs.declared.selection.Selection.{Selection}
@@ -24,6 +26,7 @@ use Rattle.osm_merge.specs.Repeats.{AreTrueRepeats, comparison_count}
 use Rattle.osm_merge.proofs.RepeatLaws.{nothing_known}
 use Rattle.osm_merge.specs.Tree.{IsTree}
 use Rattle.osm_merge.proofs.AscendingLaws.{nothing_ascends}
+use Rattle.osm_merge.proofs.ClashLaws.{IsTallying, none_tallied}
 use Rattle.osm_merge.proofs.State.{Ends, IsMerging}
 use Rattle.osm_merge.proofs.Settling.{put_nothing}
 
@@ -69,22 +72,24 @@ task_of selection source output heads sources sink before = record {
 }
 
 -- the counts of a merge
-abbrev pub counts_of : ℕ → ℕ → ℕ → Counts
-counts_of read written compared = record { read = read; written = written; compared = compared }
+abbrev pub counts_of : ℕ → ℕ → ℕ → ℕ → Counts
+counts_of read written compared clashes = record { read = read; written = written; compared = compared; clashes = clashes }
 
 -- ---- the invariant
 -- The merge between two turns, if the sources give the rests `shown` after their heads. `states` are the rests with the
 -- heads.
 pub record IsStanding (selection : Selection) (all : List VersionsToCome) (heads : List (Option VersionData))
-    (shown : List (Option VersionsToCome)) (met : List VersionData) (last top : Option VersionData) (taken : ℕ) : Type 0 where
+    (shown : List (Option VersionsToCome)) (met : List VersionData) (last top : Option VersionData) (taken : ℕ) (tally : ClashTally)
+    : Type 0 where
   pub states : List VersionsToCome
   pub are_heads : AreHeadsOf states heads shown
   pub merging : IsMerging selection all states met last top taken
+  pub tallying : IsTallying all states top tally
 
 -- The invariant between two turns. `taken` versions were taken, and those that pass were met. The sink has put the versions
 -- `put_of task.selection met`. Each list of rests that is possible now comes from one that was possible at first.
 pub record IsRunning {S O : Type 0} (task : MergeTask S O) (heads : List (Option VersionData)) (nodes : List ℕ) (sources : List S)
-    (sink : SinkState) (now : O) (last : Option VersionData) (counts : Counts) (repeats : Repeats) : Type 0 where
+    (sink : SinkState) (now : O) (last : Option VersionData) (counts : Counts) (repeats : Repeats) (tally : ClashTally) : Type 0 where
   pub met : List VersionData
   pub top : Option VersionData
   pub taken : ℕ
@@ -96,6 +101,7 @@ pub record IsRunning {S O : Type 0} (task : MergeTask S O) (heads : List (Option
   pub size : length sources ≡ length heads
   pub read_is : counts.read ≡ capped_count taken
   pub written_is : counts.written ≡ capped_count (length (put_of task.selection met))
+  pub clashes_is : counts.clashes ≡ tally.count
   pub most : (depth : ℕ) → length heads ≤ 2 ^ depth → counts.compared ≤ (length heads - 1) + taken * (depth + 1)
   pub least : passes_all task.selection ≡ true → capped_count ((taken - 1) + comparison_count repeats) ≤ counts.compared
   pub known : AreTrueRepeats task.selection last heads repeats
@@ -103,7 +109,7 @@ pub record IsRunning {S O : Type 0} (task : MergeTask S O) (heads : List (Option
   pub run :
       Explained (AllGive task.source.can_give task.first_sources) (AllGive task.source.can_give sources)
       (λ first later. (all : List VersionsToCome) → AllAscend all → AreHeadsOf all task.first_heads (map Some first)
-      → IsStanding task.selection all heads (map Some later) met last top taken)
+      → IsStanding task.selection all heads (map Some later) met last top taken tally)
 
 -- ---- the beginning
 -- Before the first turn no version is taken, and none is met.
@@ -126,9 +132,9 @@ none_met selection all up = record {
 pub run_start : {S O : Type 0} (task : MergeTask S O) (nodes : List ℕ) (sink : SinkState) (now : O) (counts : Counts)
     → HasPut task.format task.number [] (output_change task now) sink → IsTree task.first_heads nodes 1 0
     → 0 < length task.first_heads → length task.first_sources ≡ length task.first_heads
-    → counts.read ≡ 0 → counts.written ≡ 0 → counts.compared ≤ length task.first_heads - 1
-    → IsRunning task task.first_heads nodes task.first_sources sink now None counts (record { tie = None; taken = None })
-run_start task nodes sink now counts has tree some size none_read none_written few = record {
+    → counts.read ≡ 0 → counts.written ≡ 0 → counts.compared ≤ length task.first_heads - 1 → counts.clashes ≡ 0
+    → IsRunning task task.first_heads nodes task.first_sources sink now None counts (record { tie = None; taken = None }) no_clashes
+run_start task nodes sink now counts has tree some size none_read none_written few no_clash = record {
   met = [];
   top = None;
   taken = 0;
@@ -142,6 +148,7 @@ run_start task nodes sink now counts has tree some size none_read none_written f
   size = size;
   read_is = none_read;
   written_is = none_written ∙ ap (λ (vs : List VersionData). capped_count (length vs)) (sym (put_nothing task.selection));
+  clashes_is = no_clash;
   most = λ depth high. omega (arith, few);
   least = λ p. omega arith;
   known = nothing_known task.selection task.first_heads;
@@ -149,6 +156,11 @@ run_start task nodes sink now counts has tree some size none_read none_written f
   run = λ later g. (
     later,
     g,
-    λ all up are_heads. record { states = all; are_heads = are_heads; merging = none_met task.selection all up },
+    λ all up are_heads. record {
+      states = all;
+      are_heads = are_heads;
+      merging = none_met task.selection all up;
+      tallying = none_tallied all;
+    },
   );
 }

@@ -23,6 +23,9 @@ use Rattle.std.specs.Bool.{OnTrue}
 use Rattle.osm_merge.specs.declared.repeats.Tie.{Tie}
 use Rattle.osm_merge.specs.declared.repeats.Repeats.{Repeats}
 use Rattle.osm_merge.specs.Repeats.{repeats_after_taking, IsTied, IsPastAt, SavesComparison, comparison_count}
+use Rattle.osm_merge.specs.declared.clash_tally.ClashTally.{ClashTally}
+use Rattle.osm_merge.specs.ClashTally.{tally_after}
+use Rattle.osm_merge.proofs.ClashLaws.{IsTallying, tally_more}
 use Rattle.osm_merge.proofs.RepeatLaws.{known_after}
 use Rattle.osm_merge.specs.Put.{TakesEach, PutsMore, CountsMore}
 use Rattle.osm_merge.specs.Tree.{IsTree}
@@ -40,8 +43,8 @@ use Rattle.osm_merge.proofs.CountLaws.{least_turn, least_next, capped_more}
 use Rattle.osm_merge.proofs.PutLaws.{all_pass, at_once_pass, some_pending, takes_each, IsFull, is_full, before_is, not_nothing}
 
 module _ {S O : Type 0} {task : MergeTask S O} {heads : List (Option VersionData)} {nodes : List ℕ} {sources : List S} {sink : SinkState}
-    {now : O} {last : Option VersionData} {counts : Counts} {repeats : Repeats}
-    (r : IsRunning task heads nodes sources sink now last counts repeats) (w : ℕ) (top : w ≡ get_or nodes 1 0) where
+    {now : O} {last : Option VersionData} {counts : Counts} {repeats : Repeats} {tally : ClashTally}
+    (r : IsRunning task heads nodes sources sink now last counts repeats tally) (w : ℕ) (top : w ≡ get_or nodes 1 0) where
   -- The leader is one of the sources.
   pub inside : w < length heads
   inside = subst (λ q. q < length heads) (sym top) (r.tree.below 1 (omega arith) (let s = r.some in omega arith))
@@ -76,7 +79,7 @@ module _ {S O : Type 0} {task : MergeTask S O} {heads : List (Option VersionData
     next_is = put_next task.selection last v r.met r.ends
 
     taken_head : (all : List VersionsToCome) (shown : List (Option VersionsToCome))
-        (s : IsStanding task.selection all heads shown r.met last r.top r.taken) →
+        (s : IsStanding task.selection all heads shown r.met last r.top r.taken tally) →
         IsMerging task.selection all (without_head s.states w) met2 (pending_next task.selection last v) (Some v) (r.taken + 1)
     taken_head all shown s =
         merge_more task.selection all s.states r.met last r.top r.taken w v s.merging
@@ -85,7 +88,7 @@ module _ {S O : Type 0} {task : MergeTask S O} {heads : List (Option VersionData
         (least_head s.states heads nodes w (Some v) s.are_heads.heads_are r.tree top at_w)
 
     in_front : (all : List VersionsToCome) (shown : List (Option VersionsToCome))
-        (s : IsStanding task.selection all heads shown r.met last r.top r.taken)
+        (s : IsStanding task.selection all heads shown r.met last r.top r.taken tally)
         → InFront put2 (selection_of task.selection (union_given all))
     in_front all shown s =
         put_in_front task.selection all (without_head s.states w) met2 (pending_next task.selection last v) (Some v) (r.taken + 1)
@@ -136,7 +139,7 @@ module _ {S O : Type 0} {task : MergeTask S O} {heads : List (Option VersionData
     Before step later =
         (one : VersionsToCome) × (w < length (map Some (set later w one))) × (get_or (map Some (set later w one)) w None ≡ Some one)
         × step one (get_or later w end_whole)
-        × SomeFirstGive task (λ all. IsStanding task.selection all heads (map Some (set later w one)) r.met last r.top r.taken)
+        × SomeFirstGive task (λ all. IsStanding task.selection all heads (map Some (set later w one)) r.met last r.top r.taken tally)
 
     stepped : (step : VersionsToCome → VersionsToCome → Type 0) (d new : S)
         → Explained (task.source.can_give (get_or sources w d)) (task.source.can_give new) step
@@ -158,7 +161,7 @@ module _ {S O : Type 0} {task : MergeTask S O} {heads : List (Option VersionData
     refused_at : (sink2 : SinkState) (now2 : O) (fault : Fault) (shown : List (Option VersionsToCome)) (after : Option VersionsToCome)
         → w < length shown → PutsNext sink2 now2 (Ok tt)
         → SourceStep {A = VersionData} (get_or shown w None) (Err fault) after
-        → (all : List VersionsToCome) → IsStanding task.selection all heads shown r.met last r.top r.taken
+        → (all : List VersionsToCome) → IsStanding task.selection all heads shown r.met last r.top r.taken tally
         → IsRefusedAs task.selection all task.format task.number (output_change task now2) fault
     refused_at sink2 now2 fault shown after low p step all s =
         let here : VersionsToCome = rest_at s.states w in
@@ -220,7 +223,7 @@ module _ {S O : Type 0} {task : MergeTask S O} {heads : List (Option VersionData
 
     -- the loop continues
     pub run_more : (nodes2 : List ℕ) (sink2 : SinkState) (now2 : O) (last2 : Option VersionData) (given : Option VersionData) (d new : S)
-        (counts2 : Counts) (compared1 : ℕ)
+        (counts2 : Counts) (compared1 : ℕ) (tally2 : ClashTally)
         → PutsNext sink2 now2 (Ok tt) → last2 ≡ pending_next task.selection last v
         → Explained (task.source.can_give (get_or sources w d)) (task.source.can_give new) (λ e l. SourceStep (Some e) (Ok given) (Some l))
         → IsTree (set heads w given) nodes2 1 0
@@ -231,10 +234,11 @@ module _ {S O : Type 0} {task : MergeTask S O} {heads : List (Option VersionData
         → ((depth : ℕ) → length (set heads w given) ≤ 2 ^ depth → counts2.compared ≤ compared1 + depth)
         → (repeats1 : Repeats) → repeats1 ≡ repeats_after_taking repeats.tie w → (tie2 : Option Tie) → IsTied (set heads w given) tie2
         → SavesComparison repeats1.tie compared1 tie2 counts2.compared
+        → tally2 ≡ tally_after tally v → counts2.clashes ≡ tally2.count
         → IsRunning task (set heads w given) nodes2 (set sources w new) sink2 now2
-        last2 counts2 (record { tie = tie2; taken = repeats1.taken })
-    run_more nodes2 sink2 now2 last2 given d new counts2 compared1 p last_is step tree read_is writes is_repeated on grows
-        most least replayed repeats1 is1 tie2 tied2 shown =
+        last2 counts2 (record { tie = tie2; taken = repeats1.taken }) tally2
+    run_more nodes2 sink2 now2 last2 given d new counts2 compared1 tally2 p last_is step tree read_is writes is_repeated on grows
+        most least replayed repeats1 is1 tie2 tied2 shown tally_is clashes_is =
         let size : length (set heads w given) ≡ length heads = length-set heads w given in
         let sizes : length (set sources w new) ≡ length sources = length-set sources w new in
         record {
@@ -249,6 +253,7 @@ module _ {S O : Type 0} {task : MergeTask S O} {heads : List (Option VersionData
           size = sizes ∙ r.size ∙ sym size;
           read_is = read_is ∙ capped_more (2 ^ 64 - 1) r.taken counts.read r.read_is;
           written_is = writes (put_of task.selection r.met) r.written_is ∙ ap (λ (vs : List VersionData). capped_count (length vs)) next_is;
+          clashes_is = clashes_is;
           most = λ depth high.
               let old = r.most depth (subst (λ n. n ≤ 2 ^ depth) size high) in
               let later = replayed depth high in
@@ -288,6 +293,10 @@ module _ {S O : Type 0} {task : MergeTask S O} {heads : List (Option VersionData
                       merging =
                           subst (λ (l : Option VersionData). IsMerging task.selection all (without_head s.states w) met2 l (Some v)
                           (r.taken + 1)) (sym last_is) (taken_head all shown s);
+                      tallying =
+                          subst (λ (t : ClashTally). IsTallying all (without_head s.states w) (Some v) t) (sym tally_is)
+                          (tally_more all s.states r.top tally w v s.tallying
+                          (sym (head_at s.states heads w s.are_heads.heads_are) ∙ at_w) (s.merging.floor w));
                     },
               ));
         }

@@ -4,6 +4,8 @@ pub mod Giving
 pub mod Union
 pub mod Tree
 pub mod Selected
+pub mod Clashes
+pub mod ClashTally
 pub mod Pass
 pub mod Repeats
 pub mod Put

@@ -16,6 +16,7 @@ use Rattle.osm_files.specs.Sink.{CutShort}
 use Rattle.osm_merge.specs.declared.merge.Counts.{Counts}
 use Rattle.osm_merge.specs.declared.selection.Selection.{Selection}
 use Rattle.osm_merge.specs.declared.selection.Selection.TheVariants.{All}
+use Rattle.osm_merge.specs.Clashes.{clash_count}
 use Rattle.osm_merge.specs.Selected.{selection_of}
 use Rattle.osm_merge.specs.Pass.{put_of, passing_versions, passes_all}
 use Rattle.osm_merge.specs.ToCome.{VersionsToCome, rest_at}
@@ -48,6 +49,7 @@ pub record IsMergedAs (selection : Selection) (all : List VersionsToCome) (forma
   pub compared :
       let given = length (versions_of all) in
       IsBoundedFrom (few_of selection given) (length all) given counts.compared
+  pub clashes : counts.clashes ≡ capped_count (clash_count (union_given all))
 
 -- a merge that selects all versions: the file of the union was appended
 abbrev pub MergesSources : List VersionsToCome → Format → Change → Counts → Type 0

@@ -3,6 +3,7 @@
 #![tactic(auto)]
 
 mod chosen;
+mod clash_tally;
 mod compare;
 mod heads;
 pub mod laws;

@@ -8,6 +8,7 @@ ghost use Rattle.osm_merge.specs.Giving.{SomeInputsGive, SomePendingGive};
 ghost use Rattle.osm_merge.specs.Tree.{IsTree};
 ghost use Rattle.osm_merge.specs.Merged.{MergesSources, IsMergedAs, RefusesSources, IsRefusedAs, Grows};
 
+use crate::clash_tally::ClashTally;
 use crate::heads::first_versions;
 use crate::pending::Pending;
 use crate::progress::{NoProgress, Progress};
@@ -26,6 +27,8 @@ pub struct Counts {
     pub written: u64,
     /// The number of comparisons of two versions.
     pub compared: u64,
+    /// The number of keys with a visible and a deleted version, whatever is selected.
+    pub clashes: u64,
 }
 
 /// Writes the union of the versions that the sources still give as one file, each version once.
@@ -60,7 +63,7 @@ pub fn merge_into<S: Source + Drop, W: Output>(
 ///
 /// The merge keeps one version of each source and the last version that may be selected, which is put once the version
 /// after it is known. If all versions are selected, each is put as soon as it comes. `read` counts the versions that
-/// the sources gave, selected or not. `progress` only observes.
+/// the sources gave, selected or not, and `clashes` the clashes of their union. `progress` only observes.
 ///
 /// # Errors
 ///
@@ -120,15 +123,17 @@ fn write_union<S: Source, W: Output, P: Progress>(
     ensures ended { OnOk result (sink.new.ended ≡ true) }
 {
     sink.begin(out)?;
+    let mut tally = ClashTally::new();
     if sources.is_empty() {
-        return pending.end(tournament.compared, sink, out);
+        return pending.end(tournament.compared, tally.count, sink, out);
     }
     'versions: loop {
         let winner = tournament.leader();
         let is_repeated = tournament.is_repeated(winner);
         let Some(version) = tournament.take(winner) else {
-            return pending.end(tournament.compared, sink, out);
+            return pending.end(tournament.compared, tally.count, sink, out);
         };
+        tally.see(version.version());
         let written = pending.counts.written;
         let spare = pending.meet(version, is_repeated, &mut tournament.compared, sink, out)?;
         pending.report(written, spare.as_ref(), progress);

@@ -34,7 +34,7 @@ impl Pending {
           selection = selection;
           last = None;
           is_new = false;
-          counts = record { read = 0; written = 0; compared = 0 };
+          counts = record { read = 0; written = 0; compared = 0; clashes = 0 };
         } }
     {
         Pending {
@@ -45,6 +45,7 @@ impl Pending {
                 read: 0,
                 written: 0,
                 compared: 0,
+                clashes: 0,
             },
         }
     }
@@ -181,10 +182,12 @@ impl Pending {
         }
     }
 
-    /// Writes the pending version, if it stays, and ends the file. Returns the counts, with `compared` comparisons.
+    /// Writes the pending version, if it stays, and ends the file. Returns the counts, with `compared` comparisons and
+    /// `clashes` clashes.
     pub(crate) fn end<W: Output>(
         &mut self,
         compared: u64,
+        clashes: u64,
         sink: &mut Sink,
         out: &mut W,
     ) -> Result<Counts, Fault>
@@ -194,6 +197,7 @@ impl Pending {
         ensures written { IfOk result (λ done. CountsMore (put_at_end self.old.selection self.old.last)
             self.old.counts.written done.written) }
         ensures compared { IfOk result (λ done. done.compared ≡ compared) }
+        ensures clashes { IfOk result (λ done. done.clashes ≡ clashes) }
         ensures file { EndsFile W.Output (put_at_end self.old.selection self.old.last)
             sink.old out.old out.new result }
         ensures good { OnOk result (IsGoodThroughout (change_of W.Output out.old out.new)) }
@@ -203,6 +207,7 @@ impl Pending {
         sink.end(out)?;
         Ok(Counts {
             compared,
+            clashes,
             ..self.counts
         })
     }

@@ -12,6 +12,12 @@ pub const MOVED_AT_20: &[u8] = b"n1 v2 dV c0 t1970-01-01T00:00:20Z i0 u T x2 y1\
 /// The deletion of the node, after 30 seconds.
 pub const DELETED_AT_30: &[u8] = b"n1 v3 dD c0 t1970-01-01T00:00:30Z i0 u T x y\n";
 
+/// The deletion of the first version of the node, after 5 seconds.
+pub const DELETED_AT_5: &[u8] = b"n1 v1 dD c0 t1970-01-01T00:00:05Z i0 u T x y\n";
+
+/// The deletion of the first version of the node, after 20 seconds.
+pub const DELETED_AT_20: &[u8] = b"n1 v1 dD c0 t1970-01-01T00:00:20Z i0 u T x y\n";
+
 /// A second version of the node, with a time before that of the first.
 pub const MOVED_AT_5: &[u8] = b"n1 v2 dV c0 t1970-01-01T00:00:05Z i0 u T x2 y1\n";
 
@@ -38,6 +44,9 @@ pub const AT_9_EAST: &[u8] = b"n1 v1 dV c0 t i0 u T x9 y1\n";
 
 /// A way that has the id of node 1.
 pub const WAY: &[u8] = b"w1 v1 dV c0 t i0 u T N\n";
+
+/// The deletion of the way, as another version of the same number.
+pub const DELETED_WAY: &[u8] = b"w1 v1 dD c0 t i0 u T N\n";
 
 /// The file of `lines`, in sequence.
 pub fn text(alloc: Global, lines: &[&[u8]]) -> Vec<u8> {

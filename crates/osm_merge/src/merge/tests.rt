@@ -2,8 +2,9 @@
 use super::{Counts, Selection, merge_into, merge_selected};
 use crate::progress::NoProgress;
 use crate::rows::{
-    AT_9_EAST, AT_10_EAST, CAME_AT_10, DELETED_AT_30, DELETED_NEXT, DELETED_TOO, MOVED_AT_5,
-    MOVED_AT_20, OTHER_AT_20, OTHER_MOVED_AT_20, VISIBLE, WAY, history, history_of, text,
+    AT_9_EAST, AT_10_EAST, CAME_AT_10, DELETED_AT_5, DELETED_AT_20, DELETED_AT_30, DELETED_NEXT,
+    DELETED_TOO, DELETED_WAY, MOVED_AT_5, MOVED_AT_20, OTHER_AT_20, OTHER_MOVED_AT_20, VISIBLE,
+    WAY, history, history_of, text,
 };
 use osm_files::{Broken, Fault, Format, Output, Reason, Sink, Source, VecOut};
 use osm_model::{History, Version};
@@ -240,6 +241,68 @@ fn comparison_bounds(rt: HostRuntime) {
     for (sources, least, most) in COMPARISONS {
         let compared = compared(rt.alloc(), sources);
         assert!(rt; compared.is_some_and(|compared| *least <= compared && compared <= *most));
+    }
+}
+
+/// Sources, a call, and the number of clashes that the call counts.
+const CLASHES: &[(&[&[&[u8]]], Call, u64)] = &[
+    (&[&[VISIBLE, DELETED_TOO]], Call::Merge, 1),
+    (&[&[VISIBLE], &[DELETED_TOO]], Call::Merge, 1),
+    (
+        &[&[VISIBLE, DELETED_TOO], &[DELETED_TOO], &[VISIBLE]],
+        Call::Merge,
+        1,
+    ),
+    (
+        &[&[VISIBLE, DELETED_TOO], &[AT_10_EAST, DELETED_TOO]],
+        Call::Merge,
+        1,
+    ),
+    (&[&[DELETED_AT_5], &[CAME_AT_10]], Call::Merge, 1),
+    (
+        &[&[DELETED_AT_5, DELETED_AT_20], &[CAME_AT_10]],
+        Call::Merge,
+        1,
+    ),
+    (
+        &[&[VISIBLE, WAY], &[DELETED_TOO, DELETED_WAY]],
+        Call::Merge,
+        2,
+    ),
+    (&[&[VISIBLE, AT_10_EAST]], Call::Merge, 0),
+    (&[&[DELETED_AT_5], &[DELETED_AT_20]], Call::Merge, 0),
+    (&[&[VISIBLE], &[DELETED_NEXT, DELETED_WAY]], Call::Merge, 0),
+    (&[], Call::Merge, 0),
+    (
+        &[&[DELETED_AT_5], &[CAME_AT_10]],
+        Call::Select(Selection::StateVisible(7)),
+        1,
+    ),
+    (
+        &[&[DELETED_AT_5], &[CAME_AT_10]],
+        Call::Select(Selection::Visible),
+        1,
+    ),
+    (
+        &[&[VISIBLE, DELETED_TOO], &[DELETED_NEXT]],
+        Call::Select(Selection::NewestVisible),
+        1,
+    ),
+];
+
+/// The number of clashes that a call over sources with the lines `sources` counts.
+fn clashes(alloc: Global, call: Call, sources: &[&[&[u8]]]) -> Option<u64> {
+    let (outcome, _) = merged(alloc, call, Format::Opl, sources, None);
+    match outcome {
+        Ok(counts) => Some(counts.clashes),
+        Err(_) => None,
+    }
+}
+
+#[test]
+fn clashes_are_counted(rt: HostRuntime) {
+    for (sources, call, count) in CLASHES {
+        assert_eq!(rt; clashes(rt.alloc(), *call, sources), Some(*count));
     }
 }
 

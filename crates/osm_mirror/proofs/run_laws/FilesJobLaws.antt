@@ -17,6 +17,7 @@ use Rattle.osm_files.proofs.SplitLaws.{whole_file}
 use Rattle.osm_merge.specs.declared.merge.Counts.{Counts}
 use Rattle.osm_merge.specs.Giving.{AllGive, SomeInputsGive}
 use Rattle.osm_merge.specs.Selected.{selection_of}
+use Rattle.osm_merge.specs.Clashes.{clash_count}
 use Rattle.osm_merge.specs.Union.{capped_count}
 use Rattle.osm_mirror.specs.declared.run.file_way.FileWay.{FileWay}
 use Rattle.osm_mirror.specs.declared.run.files_job.FilesJob.{FilesJob}
@@ -319,4 +320,5 @@ module _ {F R I : Type 0} (fails : F → Type 0) (bytes : F → Option (List ℕ
         accepted = subst (λ (o : Order). Pairwise (FileHolds bytes can o) files h.0) (sym order_is) h.1;
         written = subst (λ (s : VersionSet). Appends change (spell job.format (selection_of job.selection s))) same done.written;
         written_count = done.written_count ∙ ap (λ (s : VersionSet). capped_count (size (selection_of job.selection s))) same;
+        clashes_count = done.clashes_count ∙ ap (λ (s : VersionSet). capped_count (clash_count s)) same;
       }

@@ -27,6 +27,7 @@ use Rattle.osm_files.proofs.FirstFaultLaws.{sources_give}
 use Rattle.osm_merge.specs.Merged as merged
 use Rattle.osm_merge.specs.Selected.{selection_of}
 use Rattle.osm_merge.specs.ToCome as source
+use Rattle.osm_merge.specs.Clashes.{clash_count}
 use Rattle.osm_merge.specs.Union as union
 use Rattle.osm_merge.proofs.GiveLaws.{give_one, give_size}
 use Rattle.osm_mirror.specs.declared.run.input.InputFile.{InputFile}
@@ -62,6 +63,7 @@ module _ (selection : Selection) (format : Format) (change : Change) where
         compared_count =
             subst (λ (n : ℕ). IsBoundedFor selection n (sum_by size held) counts.compared) (so_many 0 inputs)
             (subst (λ (n : ℕ). IsBoundedFor selection (length (sources 0 inputs)) n counts.compared) (sizes 0 inputs) m.compared);
+        clashes_count = m.clashes ∙ ap (λ (s : VersionSet). union.capped_count (clash_count s)) same;
       }
 
 module _ {O : Type 0} (output : Ghosts O) (selection : Selection) (format : Format) (before after : O) where
@@ -168,6 +170,7 @@ module _ {I : Type 0} (as_file : I → ReadAs × InputRest) where
     read_count = r.read_count;
     written_count = r.written_count;
     compared_count = subst (λ n. Compared n (sum_by size r.held) counts.compared) (length-map inputs as_file) r.compared_count;
+    clashes_count = r.clashes_count;
   }
 
   mapped_cut : (choice : VersionSet → VersionSet) (inputs : List I) (format : Format) (change : Change) (fault : Fault) →
@@ -310,7 +313,7 @@ module _ {O : Type 0} (output : Ghosts O) (format : Format) (before after : O) w
     pub command_done : (selection : Selection) → files ≡ map (file_as Any) readers → (counts : Counts) →
         SomeInputsGive (InputFileCanGive can) files (λ all. IsJob selection all format (change_of output before after) counts) →
         SomeInputsGive can readers (λ all. IsWritten (selection_of selection) all format (change_of output before after)
-        (record { read = counts.read; written = counts.written; compared = 0 }))
+        (record { read = counts.read; written = counts.written; compared = 0; clashes = counts.clashes }))
     command_done selection are counts h =
         let q = of_readers can Any readers files are (λ all. IsJob selection all format (change_of output before after) counts) h in
         let r = mapped_run (λ c. (Any, c)) (selection_of selection) (IsBoundedFor selection) q.0 format (change_of output before after)
@@ -324,6 +327,7 @@ module _ {O : Type 0} (output : Ghosts O) (format : Format) (before after : O) w
             read_count = r.read_count;
             written_count = r.written_count;
             compared_count = refl;
+            clashes_count = r.clashes_count;
           },
         )
 

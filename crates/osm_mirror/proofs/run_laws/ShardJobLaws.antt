@@ -27,6 +27,7 @@ use Rattle.osm_files.proofs.SplitLaws.{whole_file}
 use Rattle.osm_model.specs.Sets.{size}
 use Rattle.osm_model.specs.Order.{object_order}
 use Rattle.osm_merge.specs.declared.merge.Counts.{Counts}
+use Rattle.osm_merge.specs.Clashes.{clash_count}
 use Rattle.osm_merge.specs.Union.{capped_count}
 use Rattle.osm_merge.specs.declared.span.Span.{Span}
 use Rattle.osm_merge.specs.declared.selection.Selection.{Selection}
@@ -127,6 +128,7 @@ shard_is job all held span is change counts done = record {
       is done.written;
   written_count = done.written_count
       ∙ ap (λ (s : Option Span). capped_count (size (selection_of job.selection (union_of (shard_slices s held))))) is;
+  clashes_count = done.clashes_count ∙ ap (λ (s : Option Span). capped_count (clash_count (union_of (shard_slices s held)))) is;
 }
 
 -- ---- the first fault of a file

@@ -25,6 +25,7 @@ use Rattle.osm_merge.specs.Giving.{AllGive, SomeInputsGive}
 use Rattle.osm_merge.specs.Selected.{selection_of}
 use Rattle.osm_merge.specs.Slice.{slice_of}
 use Rattle.osm_merge.specs.ToCome.{rest_at}
+use Rattle.osm_merge.specs.Clashes.{clash_count}
 use Rattle.osm_merge.specs.Union.{capped_count}
 use Rattle.osm_mirror.specs.declared.run.shard_extent.FileExtent.{FileExtent}
 use Rattle.osm_mirror.specs.declared.run.slice.SliceFile.{SliceFile}
@@ -227,10 +228,12 @@ module _ {F R : Type 0} (known : F → Option (List ℕ)) (fails : F → Type 0)
       (found held : List VersionSet) → found ≡ shard_slices span held
       → Appends change (spell format (selection_of selection (union_of found)))
       → counts.written ≡ capped_count (size (selection_of selection (union_of found)))
+      → counts.clashes ≡ capped_count (clash_count (union_of found))
       → IsSpanJob selection span held format change counts
-  run_written selection format change counts span found held same written count = record {
+  run_written selection format change counts span found held same written count clashes = record {
     written = subst (λ (xs : List VersionSet). Appends change (spell format (selection_of selection (union_of xs)))) same written;
     written_count = count ∙ ap (λ (xs : List VersionSet). capped_count (size (selection_of selection (union_of xs)))) same;
+    clashes_count = clashes ∙ ap (λ (xs : List VersionSet). capped_count (clash_count (union_of xs))) same;
   }
 
   -- A job over the extents of files is the job for the span.
@@ -244,11 +247,12 @@ module _ {F R : Type 0} (known : F → Option (List ℕ)) (fails : F → Type 0)
   span_run_is all_objects sliced None is files inputs are selection format change counts (given, g, run) all held have holds =
       run_written selection format change counts None run.held held
       (no_sets given run.held sliced (none_given inputs given are g) run.files) run.written run.written_count
+      run.clashes_count
   span_run_is all_objects sliced (Some span) is files inputs are selection format change counts (given, g, run) all held have holds =
       run_written selection format change counts (Some span) run.held held
       (parts_are span files inputs given run.held held are (sets_of span files all held have holds) g
       (subst (λ (s : Span). Pairwise (HasSlice s) given run.held) is run.files)) run.written
-      run.written_count
+      run.written_count run.clashes_count
 
   -- ---- why the job is refused
   abbrev Moved : List FileExtent → ℕ → Fault → Fault

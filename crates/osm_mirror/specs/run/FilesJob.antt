@@ -19,6 +19,7 @@ use Rattle.osm_files.specs.Output.{Change, Appends}
 use Rattle.osm_files.specs.SortedRun.{whole_run, offset_in_file, IsSplitIntoRuns}
 use Rattle.osm_files.specs.Spell.{spell}
 use Rattle.osm_merge.specs.declared.merge.Counts.{Counts}
+use Rattle.osm_merge.specs.Clashes.{clash_count}
 use Rattle.osm_merge.specs.Selected.{selection_of}
 use Rattle.osm_merge.specs.Union.{capped_count}
 use Rattle.osm_mirror.specs.declared.run.file_way.FileWay.{FileWay}
@@ -51,13 +52,15 @@ module _ {F R : Type 0} (bytes : F → Option (List ℕ)) (can : R → InputRest
   FileHolds order (Stream r) held = GivesOne (can r) (λ c. GivesAs (read_as_of order, c) held)
 
 -- A job over these files, with this change of the output: each file holds a set, in the order that is required, and the
--- one spelling of the selection of the union of the sets was appended.
+-- one spelling of the selection of the union of the sets was appended. The clashes are those of the union, whatever is
+-- selected.
 pub record IsFilesJob {F R : Type 0} (bytes : F → Option (List ℕ)) (can : R → InputRest → Type 0) (job : FilesJob)
     (files : List (JobFile F R)) (change : Change) (counts : Counts) : Type 0 where
   pub held : List VersionSet
   pub accepted : Pairwise (FileHolds bytes can job.order) files held
   pub written : Appends change (spell job.format (selection_of job.selection (union_of held)))
   pub written_count : counts.written ≡ capped_count (size (selection_of job.selection (union_of held)))
+  pub clashes_count : counts.clashes ≡ capped_count (clash_count (union_of held))
 
 -- A job wrote to an output that was `before`, and is `after`: with this change; or the output, which can be cleared,
 -- was cleared, and the job wrote then.

@@ -11,6 +11,7 @@ use Rattle.osm_files.specs.Spell.{spell}
 use Rattle.osm_files.specs.Sink.{CutShort}
 use Rattle.osm_merge.specs.declared.merge.Counts.{Counts}
 use Rattle.osm_merge.specs.declared.selection.Selection.{Selection}
+use Rattle.osm_merge.specs.Clashes.{clash_count}
 use Rattle.osm_merge.specs.Merged as merged
 use Rattle.osm_merge.specs.ToCome as source
 use Rattle.osm_merge.specs.Union.{capped_count}
@@ -30,8 +31,8 @@ IsBoundedFor selection inputs given compared =
     merged.IsBoundedFrom (merged.few_of selection given) inputs given compared
 
 -- A job over these inputs, with this change of the output: each input gave a set, and the one spelling of the choice
--- from the union of these sets was appended. `Compared` is the condition on the number of inputs, the number of
--- versions in their sets, and the count of comparisons.
+-- from the union of these sets was appended. The clashes are those of the union, whatever is chosen. `Compared` is the
+-- condition on the number of inputs, the number of versions in their sets, and the count of comparisons.
 pub record IsJobBy {I : Type 0} (Gives : I → VersionSet → Type 0) (choice : VersionSet → VersionSet)
     (Compared : ℕ → ℕ → ℕ → Type 0) (inputs : List I) (format : Format) (change : Change) (counts : Counts) : Type 0
   where
@@ -41,6 +42,7 @@ pub record IsJobBy {I : Type 0} (Gives : I → VersionSet → Type 0) (choice : 
     pub read_count : counts.read ≡ capped_count (sum_by size held)
     pub written_count : counts.written ≡ capped_count (size (choice (union_of held)))
     pub compared_count : Compared (length inputs) (sum_by size held) counts.compared
+    pub clashes_count : counts.clashes ≡ capped_count (clash_count (union_of held))
 
 -- If each input gives a set, a front of the one spelling of the choice from the union of these sets was appended. If
 -- the output failed, the number of bytes of this front is the fault's `place`.

@@ -10,6 +10,7 @@ use Rattle.osm_files.specs.Spell.{spell}
 use Rattle.osm_merge.specs.declared.merge.Counts.{Counts}
 use Rattle.osm_merge.specs.declared.span.Span.{Span}
 use Rattle.osm_merge.specs.declared.selection.Selection.{Selection}
+use Rattle.osm_merge.specs.Clashes.{clash_count}
 use Rattle.osm_merge.specs.Selected.{selection_of}
 use Rattle.osm_merge.specs.Slice.{slice_of}
 use Rattle.osm_merge.specs.Union.{capped_count}
@@ -29,22 +30,25 @@ shard_set selection number count all held =
     selection_of selection (union_of (shard_slices (shard_span number count all) held))
 
 -- A job for a shard over files with these bytes that hold these sets, with this change of the output: the one spelling
--- of what the shard has was appended.
+-- of what the shard has was appended. The clashes are those of the union of the slices, whatever is selected.
 pub record IsShardJob (job : ShardJob) (all : List (List ℕ)) (held : List VersionSet) (change : Change)
     (counts : Counts) : Type 0 where
   pub written : Appends change
       (spell job.format (shard_set job.selection job.shard.number job.shard.count all held))
   pub written_count : counts.written ≡ capped_count
       (size (shard_set job.selection job.shard.number job.shard.count all held))
+  pub clashes_count : counts.clashes ≡ capped_count
+      (clash_count (union_of (shard_slices (shard_span job.shard.number job.shard.count all) held)))
 
 -- A job for a span of objects over files that hold these sets: the one spelling of the selection of the union of the
--- sets' slices was appended. Without a span there are no slices.
+-- sets' slices was appended. The clashes are those of the union of the slices. Without a span there are no slices.
 pub record IsSpanJob (selection : Selection) (span : Option Span) (held : List VersionSet) (format : Format)
     (change : Change) (counts : Counts) : Type 0 where
   pub written : Appends change
       (spell format (selection_of selection (union_of (shard_slices span held))))
   pub written_count : counts.written ≡ capped_count
       (size (selection_of selection (union_of (shard_slices span held))))
+  pub clashes_count : counts.clashes ≡ capped_count (clash_count (union_of (shard_slices span held)))
 
 -- what the first `most` shards from the shard `number` on append as OPL, one for one
 abbrev pub shard_outputs : Selection → ℕ → List (List ℕ) → List VersionSet → ℕ → ℕ → List (List ℕ)

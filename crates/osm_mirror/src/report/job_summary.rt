@@ -51,14 +51,15 @@ impl Progress for JobTally {
     }
 }
 
-/// A job that made a file. Its text is a line about the job, without a line feed.
+/// A job that made a file. Its text is a line about the job, without a line feed. A clashing key has a visible and a
+/// deleted version.
 #[derive(Clone, Copy, Debug)]
 pub struct JobSummary<'a> {
     /// The command that made the file.
     pub command: Command,
     /// The number of files that the job read.
     pub inputs: usize,
-    /// The numbers of versions that the job read and wrote.
+    /// The numbers of versions that the job read and wrote, and the number of clashing keys.
     pub counts: Counts,
     /// The kinds of the versions that it wrote, and the keys with several data.
     pub tally: JobTally,
@@ -70,7 +71,12 @@ pub struct JobSummary<'a> {
 
 impl Display for JobSummary<'_> {
     fn fmt<W: fmt::Write>(&self, f: &mut Formatter<W>) -> fmt::Result {
-        let Counts { read, written, .. } = self.counts;
+        let Counts {
+            read,
+            written,
+            clashes,
+            ..
+        } = self.counts;
         let JobTally {
             written: kinds,
             shared_keys,
@@ -86,9 +92,9 @@ impl Display for JobSummary<'_> {
         write!(f, "{read} versions read, {written} written ({kinds}), ")?;
         write!(
             f,
-            "{shared_keys} keys with several data, {seconds}.{tenths} s, to {}",
-            Escaped(self.output)
-        )
+            "{shared_keys} keys with several data, {clashes} clashing keys, "
+        )?;
+        write!(f, "{seconds}.{tenths} s, to {}", Escaped(self.output))
     }
 }
 

@@ -5,8 +5,8 @@ use osm_files::{Fault, Format, SliceIn, VecOut};
 use osm_merge::Selection;
 use std::alloc::Global;
 
-/// Two nodes of one key, and a way that comes twice.
-const FILE: &[u8] = b"n1 v1 dV x1 y1\nn1 v1 dV x2 y1\nw1 v1 dV Nn1\nw1 v1 dV Nn1\n";
+/// Two nodes of one key, a way that comes twice, and its deletion as another version of the same number.
+const FILE: &[u8] = b"n1 v1 dV x1 y1\nn1 v1 dV x2 y1\nw1 v1 dV Nn1\nw1 v1 dV Nn1\nw1 v1 dD\n";
 
 /// The line about a sort of the file.
 fn line_of(alloc: Global) -> Result<String, Fault> {
@@ -37,7 +37,7 @@ fn line_of(alloc: Global) -> Result<String, Fault> {
 #[test]
 fn runs_have_a_line(rt: HostRuntime) {
     let line =
-        "osm_hist: sort: 1 inputs, 3 versions read, 3 written (2 nodes, 1 ways, 0 relations), \
-        1 keys with several data, 12.3 s, to o\\x1b";
+        "osm_hist: sort: 1 inputs, 4 versions read, 4 written (2 nodes, 2 ways, 0 relations), \
+        2 keys with several data, 1 clashing keys, 12.3 s, to o\\x1b";
     assert!(rt; line_of(rt.alloc()).is_ok_and(|found| found.as_str() == line));
 }

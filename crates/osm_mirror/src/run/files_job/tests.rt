@@ -20,6 +20,17 @@ const FAULTY: &[u8] = b"n7 v1 dD\nn7\n";
 /// A file in which no line but the first begins where it may be split.
 const MANY: &[u8] = b"n9 v1 dD\nn8 v1 dD\nn7 v1 dD\nn6 v1 dD\n";
 
+/// Nodes 1 and 2. Node 2 has a visible and a deleted version of one number.
+const CLASH: &[u8] = b"n1 v1 dD\nn2 v1 dD\nn2 v1 dV x1 y1\n";
+
+/// The nodes 2 and 3, not sorted. Node 3 has a visible and a deleted version of one number, which are apart.
+const UNSORTED_CLASH: &[u8] = b"n3 v1 dD\nn2 v1 dD\nn3 v1 dV x1 y1\n";
+
+/// Nodes 3, 2 and 3 in o5m, without a reset, so that the file can't be split. Node 3 has a deleted and a visible
+/// version of one number.
+const HELD_CLASH: &[u8] = b"\xff\xe0\x04o5m2\x10\x03\x06\x01\x00\x10\x05\x01\x01\x00\x02\x02\
+    \x10\x05\x02\x01\x00\x00\x00\xfe";
+
 /// The number of turns of a job.
 #[derive(Clone, Copy)]
 struct Turns(usize);
@@ -93,7 +104,8 @@ fn files_of<'f>(
     inputs
 }
 
-/// The number of turns of a job over `files`, and its output, or its fault and the number of bytes written.
+/// The number of turns of a job over `files`, its output and the number of clashes, if there are any; or its fault and
+/// the number of bytes written.
 fn outcome(alloc: Global, files: &[&[u8]], setting: Setting) -> String {
     let mut out = Memory {
         out: VecOut::new(alloc),
@@ -111,9 +123,12 @@ fn outcome(alloc: Global, files: &[&[u8]], setting: Setting) -> String {
     let mut text = String::new(alloc);
     let _ = write!(text, "{}: ", turns.0);
     match result {
-        Ok(_) => {
+        Ok(counts) => {
             for line in str::from_utf8(&bytes).unwrap_or("?").lines() {
                 let _ = text.push_str(line.split(' ').next().unwrap_or("?"));
+            }
+            if counts.clashes > 0 {
+                let _ = write!(text, ", {} clashes", counts.clashes);
             }
         }
         Err(fault) => {
@@ -132,6 +147,9 @@ fn a_run_has_few_turns(rt: HostRuntime) {
     };
     for (files, text) in [
         ([SORTED, SORTED, SORTED].as_slice(), "1: n1n3"),
+        (&[CLASH, SORTED, CLASH], "1: n1n2n2n3, 1 clashes"),
+        (&[UNSORTED_CLASH, CLASH], "2: n1n2n2n3n3, 2 clashes"),
+        (&[HELD_CLASH, CLASH], "2: n1n2n2n2n3n3, 2 clashes"),
         (&[SORTED, UNSORTED], "2: n1n2n3n4"),
         (&[UNSORTED, SORTED], "2: n1n2n3n4"),
         (&[UNSORTED, UNSORTED_TOO], "3: n2n4n5n6"),
@@ -161,6 +179,8 @@ fn a_run_that_cannot_begin_anew_has_one_turn(rt: HostRuntime) {
         (once, &[SORTED, UNSORTED], "1: n1n2n3n4"),
         (once, &[SORTED, FAULTY], "0: file 1, byte 9: NoVersion, 0"),
         (stream, &[UNSORTED, UNSORTED_TOO], "1: n2n4n5n6"),
+        (stream, &[SORTED, CLASH], "1: n1n2n2n3, 1 clashes"),
+        (stream, &[CLASH, UNSORTED_CLASH], "1: n1n2n2n3n3, 2 clashes"),
         (
             stream,
             &[UNSORTED, FAULTY],

@@ -18,10 +18,13 @@ const LONG: &[u8] = b"n1 v1 dD\nn2 v1 dD\nn3 v1 dD\nn4 v1 dD\nn5 v1 dD\nn6 v1 dD
 const SHORT: &[u8] = b"n7 v1 dD\n";
 /// Nodes 2, 3 and 5.
 const LINES: &[u8] = b"n2 v1 dD\nn3 v1 dD\nn5 v1 dD\n";
+/// Nodes 2, 5 and 6, each visible.
+const VISIBLE: &[u8] = b"n2 v1 dV x1 y1\nn5 v1 dV x1 y1\nn6 v1 dV x1 y1\n";
 /// Nodes 1 and 4, in o5m.
 const SETS: &[u8] = b"\xff\xe0\x04o5m2\x10\x03\x02\x01\x00\x10\x03\x06\x01\x00\xfe";
 
-/// The objects that each of `count` shards writes of the files, or the shard's fault. A bar separates the shards.
+/// The objects that each of `count` shards writes of the files, and the number of clashes, if there are any; or the
+/// shard's fault. A bar separates the shards.
 fn shard_texts(alloc: Global, files: &[&&[u8]], count: u64) -> String {
     let mut texts = String::new(alloc);
     for number in 1..count.saturating_add(1) {
@@ -36,10 +39,13 @@ fn shard_texts(alloc: Global, files: &[&&[u8]], count: u64) -> String {
         let mut out = VecOut::new(alloc);
         let _ = texts.push_str("|");
         match run_shard(alloc, run, files, &mut out, &mut NoProgress) {
-            Ok(_) => {
+            Ok(counts) => {
                 let written = out.into_vec();
                 for line in str::from_utf8(written.as_slice()).unwrap_or("").lines() {
                     let _ = texts.push_str(line.split(' ').next().unwrap_or(""));
+                }
+                if counts.clashes > 0 {
+                    let _ = write!(texts, ", {} clashes", counts.clashes);
                 }
             }
             Err(fault) => {
@@ -61,6 +67,12 @@ fn shards_are_written(rt: HostRuntime) {
         (FIRST, FIRST, 4, "|n1n2|||"),
         (LINES, SETS, 2, "|n1n2n3n4|n5"),
         (SETS, SETS, 2, "|n1n4|"),
+        (
+            LONG,
+            VISIBLE,
+            2,
+            "|n1n2n2n3n4n5n5, 2 clashes|n6n6, 1 clashes",
+        ),
     ] {
         assert_eq!(rt;
             shard_texts(rt.alloc(), &[&one, &other], count).as_str(),
