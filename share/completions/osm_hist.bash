@@ -14,9 +14,9 @@ _osm_hist_files() {
 # The options of a command.
 _osm_hist_options() {
     case $1 in
-    merge) echo --output -o --format -f --shard --fsync --progress --summary --whole --ended --files0-from --hints --help -h ;;
-    apply) echo --output -o --format -f --shard --fsync --progress --summary --whole --ended --files0-from --hints --with-history --with-deletions --sorted --help -h ;;
-    time-filter | sort) echo --output -o --format -f --shard --fsync --progress --summary --whole --ended --files0-from --hints --sorted --help -h ;;
+    merge) echo --output -o --format -f --shard --fsync --progress --summary --reject-clashes --whole --ended --files0-from --hints --help -h ;;
+    apply) echo --output -o --format -f --shard --fsync --progress --summary --reject-clashes --whole --ended --files0-from --hints --with-history --with-deletions --sorted --help -h ;;
+    time-filter | sort) echo --output -o --format -f --shard --fsync --progress --summary --reject-clashes --whole --ended --files0-from --hints --sorted --help -h ;;
     check) echo --sorted --summary --json --whole --ended --files0-from --hints --help -h ;;
     plan) echo --strict --hints --help -h ;;
     '') echo --explain --help -h --version -V ;;
@@ -32,7 +32,8 @@ _osm_hist() {
     if [ "$before" = = ]; then before=${COMP_WORDS[COMP_CWORD - 2]}; fi
     case $before in
     --format | -f) _osm_hist_offer 'opl o5m o5c' "$word" && return ;;
-    --shard | --explain) return ;;
+    --shard) return ;;
+    --explain) _osm_hist_offer 'Unsorted BadHeader NoEnd Truncated AfterEnd TooLong UnknownKind UnknownField RepeatedField BadNumber BadText BadTime BadCoordinate BadList OutOfRange NoVersion NoTime NoLocation NotUtf8 BadReference BadSection BadMemberType MixedSegment ReadFault WriteFault BadWord BadOrder NoMirror' "$word" && return ;;
     --output | -o | --files0-from) _osm_hist_files "$word" && return ;;
     esac
     case $word in

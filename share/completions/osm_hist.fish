@@ -16,7 +16,7 @@ complete -c osm_hist -n "__fish_seen_subcommand_from $writing check plan" -F
 
 complete -c osm_hist -n "not __fish_seen_subcommand_from help" -s h -l help -d 'Print help'
 complete -c osm_hist -n $none -s V -l version -d 'Print the version'
-complete -c osm_hist -n $none -l explain -x -d 'Explain a reason'
+complete -c osm_hist -n $none -l explain -x -a 'Unsorted BadHeader NoEnd Truncated AfterEnd TooLong UnknownKind UnknownField RepeatedField BadNumber BadText BadTime BadCoordinate BadList OutOfRange NoVersion NoTime NoLocation NotUtf8 BadReference BadSection BadMemberType MixedSegment ReadFault WriteFault BadWord BadOrder NoMirror' -d 'Explain a reason, or list them'
 complete -c osm_hist -n "__fish_seen_subcommand_from $writing" -s o -l output -r -F -d 'The file to be written'
 complete -c osm_hist -n "__fish_seen_subcommand_from $writing" -s f -l format -x -a 'opl o5m o5c' -d 'Its format'
 complete -c osm_hist -n "__fish_seen_subcommand_from $writing" -l shard -x -d 'Write part K of N'
@@ -30,6 +30,7 @@ complete -c osm_hist -n "__fish_seen_subcommand_from $writing check" -l ended -d
 complete -c osm_hist -n "__fish_seen_subcommand_from plan" -l strict -d 'Write nothing if an event fails'
 complete -c osm_hist -n "__fish_seen_subcommand_from $writing check" -l files0-from -r -F -d 'Read the names of the files from a list, each ended by NUL'
 complete -c osm_hist -n "__fish_seen_subcommand_from $writing" -l summary -d 'Tell after success what was read and written'
+complete -c osm_hist -n "__fish_seen_subcommand_from $writing" -l reject-clashes -d 'Fail if a key is visible and deleted'
 complete -c osm_hist -n "__fish_seen_subcommand_from $writing check plan" -l hints -d 'Say after a failure what to do'
 complete -c osm_hist -n "__fish_seen_subcommand_from check" -l summary -d 'Tell the versions by kind and the times of each file'
 complete -c osm_hist -n "__fish_seen_subcommand_from check" -l json -d 'Print an object of JSON for each file'

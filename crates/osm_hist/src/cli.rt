@@ -7,17 +7,16 @@ mod hint;
 mod input;
 mod part;
 mod plan_run;
-mod progress;
 mod refusal;
 mod request;
 mod shard;
 mod target;
 
 use clap::{ArgMatches, Error};
-use command::command;
+use command::{ALL_REASONS, command};
 use file_check::check_files;
 use file_run::run_files;
-use osm_mirror::{Escaped, Explanation};
+use osm_mirror::{Escaped, Explanation, ReasonList};
 use plan_run::run_plan;
 pub(crate) use refusal::Refusal;
 use request::{Request, read_list};
@@ -162,13 +161,16 @@ fn status_of<E: Write + IsTerminal>(
     }
 }
 
-/// Prints what `reason` means, and what to do.
+/// Prints what `reason` means, and what to do; or all reasons.
 fn print_explanation<'a, O: Write>(
     alloc: Global,
     reason: Option<&'a str>,
     out: &mut O,
 ) -> Result<(), Refusal<'a>> {
     let reason = reason.ok_or(Refusal::NoCommand)?;
+    if reason == ALL_REASONS {
+        return print(out, &format!(in alloc; "{ReasonList}")?);
+    }
     let row = Explanation::named(reason).ok_or(Refusal::NotReason { reason })?;
     print(out, &format!(in alloc; "{row}.\n{}\n", row.remedy)?)
 }

@@ -20,24 +20,24 @@ const ARGUMENT: usize = 4096;
 /// The greatest descriptor of a standard stream.
 const STANDARD_ERROR: i32 = 2;
 
-/// The folder that takes the descriptors of closed standard streams.
-const ROOT: &str = "/";
+/// Folders that may take the descriptors of closed standard streams. The first one that opens does.
+const FOLDERS: [&str; 5] = ["/", ".", "/dev", "/proc", "/etc"];
 
 fn main(rt: HostRuntime) -> ExitCode {
     let status = match occupy_standard(&rt) {
         Ok(_handles) => run_arguments(&rt),
-        Err(error) => Refusal::unread(ROOT, &error).report(&mut rt.stderr()),
+        Err(error) => Refusal::unread(FOLDERS[0], &error).report(&mut rt.stderr()),
     };
     ExitCode::from(status)
 }
 
-/// Opens the folder `/` until it gets a descriptor that is none of a standard stream. If a standard stream is closed,
-/// this folder has its descriptor as long as the handles are kept, so that no file gets it. Each read and write of a
-/// folder fails.
+/// Opens a folder until it gets a descriptor that is none of a standard stream. If a standard stream is closed, this
+/// folder has its descriptor as long as the handles are kept, so that no file gets it. Each read and write of a folder
+/// fails.
 fn occupy_standard(rt: &HostRuntime) -> io::Result<[Option<File>; 4]> {
     let mut handles = [None, None, None, None];
     for handle in &mut handles {
-        let folder = File::open(rt, ROOT)?;
+        let folder = open_folder(rt)?;
         let is_above = folder.as_raw_fd() > STANDARD_ERROR;
         *handle = Some(folder);
         if is_above {
@@ -45,6 +45,17 @@ fn occupy_standard(rt: &HostRuntime) -> io::Result<[Option<File>; 4]> {
         }
     }
     Ok(handles)
+}
+
+/// Opens the first of the folders that opens. If none does, the error is that of the first.
+fn open_folder(rt: &HostRuntime) -> io::Result<File> {
+    let first = File::open(rt, FOLDERS[0]);
+    if first.is_ok() {
+        return first;
+    }
+    let others = FOLDERS[1..].iter();
+    let opened = others.filter_map(|name| File::open(rt, *name).ok()).next();
+    opened.map_or(first, Ok)
 }
 
 /// Runs the command of the arguments and returns the exit status.

@@ -6,4 +6,5 @@ pub mod PlanFault
 pub mod PlanLine
 pub mod Plan
 pub mod PlanLaws
+pub mod PlanRun
 pub mod Merges

@@ -13,15 +13,17 @@ mod mirror;
 mod plan;
 mod plan_fault;
 mod plan_line;
+mod plan_run;
 
 pub use event::{Event, MirrorEvent, Replies, Reply, Step, events_of};
 pub use keep::{Keep, Taken};
 pub use mirror::Mirror;
 use osm_files::{Fault, Format};
 use osm_model::Memory;
-pub use plan::{Plan, read_plan};
+pub use plan::{Plan, line_of_number, line_of_part, read_plan};
 pub use plan_fault::{PlanFault, PlanReason};
 pub use plan_line::PlanWrite;
+pub use plan_run::PlanRun;
 use std::alloc::Global;
 use std::marker::Model;
 

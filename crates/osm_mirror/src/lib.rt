@@ -7,22 +7,22 @@ mod report;
 mod run;
 
 pub use fleet::{
-    Event, Fleet, Keep, Mirror, MirrorEvent, Plan, PlanFault, PlanReason, PlanWrite, Replies,
-    Reply, Step, Taken, events_of, read_plan,
+    Event, Fleet, Keep, Mirror, MirrorEvent, Plan, PlanFault, PlanReason, PlanRun, PlanWrite,
+    Replies, Reply, Step, Taken, events_of, line_of_number, line_of_part, read_plan,
 };
 pub use osm_merge::{Counts, NoProgress, Outside, Progress, Relation, Selection, Span};
 pub use osm_model::{Kind, Memory, Object, Version};
 pub use report::{
     BytesRead, CUT, CheckedFile, CheckedJson, Content, Conversion, Escaped, EscapedBytes,
-    EscapedOut, Explanation, FaultyLine, JobSummary, JobTally, JsonText, Quoted, REASONS,
-    RefusedJson, content_of, fault_text, is_report_due,
+    EscapedOut, Explanation, FaultyLine, JobSummary, JobTally, JsonText, Meter, OtherOutput,
+    Quoted, REASONS, ReasonList, RefusedJson, content_of, fault_text, is_report_due,
 };
 pub use run::{
     CheckReport, Checked, Command, FileEnd, FileRequest, FilesJob, InputFile, JobFile, NamesFault,
-    Order, ReadAs, RequestFault, Shard, ShardJob, Slice, SliceFile, Tally, cut_offset, read_moment,
-    read_names, read_retried, run_apply, run_check, run_check_sorted, run_files, run_merge,
-    run_period_filter, run_selected, run_shard, run_slice, run_sort, run_tally, run_tally_sorted,
-    run_time_filter, write_retried,
+    Order, Place, ReadAs, RequestFault, Shard, ShardJob, Slice, SliceFile, Tally, cut_offset,
+    folder_of, is_part, last_of, part_name, read_moment, read_names, read_retried, run_apply,
+    run_check, run_check_sorted, run_files, run_merge, run_period_filter, run_selected, run_shard,
+    run_slice, run_sort, run_tally, run_tally_sorted, run_time_filter, write_retried,
 };
 
 #[cfg(test)]

@@ -7,14 +7,16 @@ mod fault_line;
 mod faulty_line;
 mod foreign;
 mod job_summary;
+mod meter;
 mod reading;
 mod shown;
 
 pub use checked::{CheckedFile, CheckedJson, RefusedJson};
-pub use explanation::{Explanation, REASONS};
+pub use explanation::{Explanation, REASONS, ReasonList};
 pub use fault_line::fault_text;
 pub use faulty_line::FaultyLine;
-pub use foreign::{CUT, Content, Conversion, content_of};
+pub use foreign::{CUT, Content, Conversion, OtherOutput, content_of};
 pub use job_summary::{JobSummary, JobTally};
+pub use meter::Meter;
 pub use reading::{BytesRead, is_report_due};
 pub use shown::{Escaped, EscapedBytes, EscapedOut, JsonText, Quoted};

@@ -9,6 +9,9 @@ const VERSION: &str = "0.1.0";
 /// The option for a list of files.
 pub(super) const LIST: &str = "files0-from";
 
+/// The value of `--explain` if it has none: all reasons are listed.
+pub(super) const ALL_REASONS: &str = "reasons";
+
 /// The usage of `time-filter`.
 const TIME_FILTER_USAGE: &str =
     "osm_hist time-filter [OPTIONS] --output <OUT> <FILE> <TIME> [TIME]\n       \
@@ -33,7 +36,7 @@ pub(super) fn command<'a>(alloc: Global) -> Made<'a> {
     Command::new(alloc, "osm_hist")
         .about("Merges, cuts and checks files of OpenStreetMap histories")
         .version(VERSION)
-        .override_usage("osm_hist [COMMAND]\n       osm_hist --explain <REASON>")
+        .override_usage("osm_hist [COMMAND]\n       osm_hist --explain [REASON]")
         .after_help(
             "Without a command, standard input is merged to standard output, as OPL.\n\n\
             Memory: files that are sorted are read one version at a time, however large they are.",
@@ -42,7 +45,9 @@ pub(super) fn command<'a>(alloc: Global) -> Made<'a> {
         .args_conflicts_with_subcommands(true)
         .bin_name("osm_hist")?
         .arg(
-            arg!(in alloc; --explain <REASON> "Explains why a file is rejected, by its reason, and what to do"),
+            arg!(in alloc; --explain [REASON] "Explains why a file is rejected, by its reason; without one, lists the reasons").default_missing_value(
+                ALL_REASONS,
+            ),
         )?
         .subcommand(merge_command(alloc)?)?
         .subcommand(apply_command(alloc)?)?
@@ -69,6 +74,7 @@ fn apply_command<'a>(alloc: Global) -> Made<'a> {
         .after_help(any_order_help!(
             "apply --output today.o5m --format o5m yesterday.o5m changes.o5c"
         ));
+    let command = command.alias("apply-changes")?;
     let deletions = "Writes the newest version of each object, deletions included";
     let deletions = arg!(in alloc; --"with-deletions").help(deletions);
     let files = "The files and changes, in OPL, o5m or o5c; - is standard input";
@@ -154,6 +160,8 @@ fn with_output<'a>(alloc: Global, command: Command<'a>) -> Made<'a> {
         "Writes part K of N; all parts as OPL, in sequence, are the output; the files are sorted";
     let progress = "Reports on standard error, while it runs, how many megabytes were read";
     let summary = "Reports on standard error, in one line after success, what was read and written";
+    let clashes =
+        "Replaces no file if a version is visible in one file and deleted in another, or in itself";
     let format = arg!(in alloc; -f --format <FORMAT> "Its format, whatever its name ends in");
     let format = format.value_parser(FORMAT_NAMES.as_slice());
     command
@@ -162,7 +170,10 @@ fn with_output<'a>(alloc: Global, command: Command<'a>) -> Made<'a> {
         .arg(arg!(in alloc; --shard <"K/N">).help(shard))?
         .arg(arg!(in alloc; --fsync "Puts the file on the disk before it gets its name"))?
         .arg(arg!(in alloc; --progress).help(progress))?
-        .arg(arg!(in alloc; --summary).help(summary))
+        .arg(arg!(in alloc; --summary).help(summary))?
+        .arg(arg!(in alloc; --"reject-clashes").help(clashes))?
+        .arg(arg!(in alloc; -O --overwrite "As osmium's; OUT is always replaced").hide(true))?
+        .arg(arg!(in alloc; --"no-progress" "As osmium's; see --progress").hide(true))
 }
 
 /// Adds the options of a command that reads files.

@@ -3,6 +3,7 @@ use super::files::input_name;
 use super::input::{InputBytes, OpenInput, Watch};
 use super::refusal::Refusal;
 use super::request::Request;
+use super::target::refuse_standard_output;
 use super::{Host, hint, print};
 use osm_files::{Fault, FramedExtent, ReadAt, Reason, SortedRun};
 use osm_mirror::{
@@ -44,7 +45,11 @@ pub(super) fn check_files<I: Read + Drop, O: Write + IsTerminal, E: Write + IsTe
     hints: bool,
 ) -> u8 {
     let mut status = 0;
-    for arg in &request.files.names {
+    let files = &request.files;
+    if let Err(refusal) = refuse_standard_output(rt, files.list, files.names.as_slice()) {
+        return hint::report(rt, &refusal, err, hints);
+    }
+    for arg in &files.names {
         let reads = Reads {
             bytes: Cell::new(0),
             failed: Cell::new(None),
@@ -120,17 +125,17 @@ fn check_file<'a, I: Read + Drop>(
 ) -> Result<CheckedFile<'a>, Refusal<'a>> {
     let mut inputs = Vec::new(rt.alloc());
     inputs.push(OpenInput::open(rt, &request.files, 0, arg, stdin, reads)?)?;
-    check_first(rt.alloc(), inputs.as_slice(), request.sorted, reads)
+    check_first(rt, inputs.as_slice(), request.sorted, reads)
 }
 
 /// Checks the first one of open inputs. It has to be sorted if `sorted` is set. A stream is held in memory otherwise.
 fn check_first<'a, I: Read + Drop, M: Watch>(
-    alloc: Global,
+    rt: &impl Host,
     inputs: &[OpenInput<'a, I, M>],
     sorted: bool,
     reads: &Reads,
 ) -> Result<CheckedFile<'a>, Refusal<'a>> {
-    let Some(input) = inputs.first() else {
+    let (Some(input), alloc) = (inputs.first(), rt.alloc()) else {
         return Err(Refusal::Memory(AllocError));
     };
     let checked = match &input.bytes {
@@ -141,7 +146,7 @@ fn check_first<'a, I: Read + Drop, M: Watch>(
             None => Err(Fault::failed(0)),
         },
     };
-    input.refuse_changed()?;
+    input.refuse_changed(rt)?;
     match checked {
         Ok(checked) => Ok(CheckedFile {
             name: input.name,

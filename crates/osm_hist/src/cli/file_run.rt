@@ -1,13 +1,13 @@
 //! Jobs that make one file from files.
 use super::input::{InputBytes, OpenInput, RegularInput, StreamInput, Watch};
-use super::progress::Meter;
 use super::request::{FileRun, InputFiles};
 use super::shard::{check_shardable, refuse_irregular};
-use super::target::Target;
+use super::target::{Target, refuse_standard_output};
 use super::{Host, Refusal};
 use osm_files::{Clear, Fault, Reason, ToWrite};
 use osm_mirror::{
-    Counts, JobFile, JobSummary, NoProgress, ShardJob, run_files as run_open_files, run_shard,
+    Counts, JobFile, JobSummary, Meter, NoProgress, ShardJob, run_files as run_open_files,
+    run_shard,
 };
 use std::alloc::{AllocError, Global};
 use std::cell::Cell;
@@ -70,8 +70,12 @@ impl<'a, 'q, 'f, 'r, 'e, R: Host, E: Write + IsTerminal> Runner<'a, 'q, 'f, 'r, 
             let opened = OpenInput::open(self.rt, self.files, input, *name, stdin, &self.meter)?;
             inputs.push(opened)?;
         }
+        if let Target::StandardOutput = self.target {
+            refuse_standard_output(self.rt, self.files.list, names)?;
+        }
         if is_shard {
-            self.has_more_o5.set(check_shardable(inputs.as_slice())?);
+            self.has_more_o5
+                .set(check_shardable(self.rt, inputs.as_slice())?);
         }
         Ok(inputs)
     }
@@ -89,9 +93,10 @@ impl<'a, 'q, 'f, 'r, 'e, R: Host, E: Write + IsTerminal> Runner<'a, 'q, 'f, 'r, 
             ids.push(input.id)?;
         }
         let mut destination = self.target.open(self.rt, ids.as_slice(), out)?;
-        self.meter.size.set(size_of(inputs));
+        self.meter.note_size(size_of(inputs));
         let written = self.write(inputs, &mut destination);
-        let counted = self.unless_changed(inputs, written, destination.error);
+        let (taken, error) = (destination.taken, destination.error);
+        let counted = self.unless_changed(inputs, written, taken, error);
         self.meter.end(counted.as_ref().ok());
         let counts = destination.finish(self.rt, counted, self.asked.fsync)?;
         if self.asked.summary {
@@ -99,7 +104,7 @@ impl<'a, 'q, 'f, 'r, 'e, R: Host, E: Write + IsTerminal> Runner<'a, 'q, 'f, 'r, 
                 command: self.asked.command,
                 inputs: inputs.len(),
                 counts,
-                tally: self.meter.tally.get(),
+                tally: self.meter.tally(),
                 milliseconds: self.meter.milliseconds(),
                 output: self.target.name(),
             });
@@ -121,7 +126,8 @@ impl<'a, 'q, 'f, 'r, 'e, R: Host, E: Write + IsTerminal> Runner<'a, 'q, 'f, 'r, 
         let (job, mut progress) = (self.asked.job, &self.meter);
         let mut output = ToWrite::new(buffer);
         if let Some(shard) = self.asked.shard {
-            let files = regular_files(alloc, inputs)?;
+            let files = inputs.iter().filter_map(|input| input.regular());
+            let files: Vec<&RegularInput<M>> = files.collect(alloc)?;
             let shard_job = ShardJob {
                 shard,
                 selection: job.selection,
@@ -144,22 +150,35 @@ impl<'a, 'q, 'f, 'r, 'e, R: Host, E: Write + IsTerminal> Runner<'a, 'q, 'f, 'r, 
         }
     }
 
-    /// The outcome of the job, unless a file has changed since it was opened. `error` is the number of a write error.
+    /// The outcome of the job, unless a file has changed since it was opened. `taken` is the number of bytes that the
+    /// output took, and the place of a `WriteFault`: the job's own place counts the bytes in the buffer, too. `error` is
+    /// the number of a write error.
     fn unless_changed<I: Read + Drop, M: Watch>(
         &self,
         inputs: &[OpenInput<'a, I, M>],
         written: Result<Counts, Fault>,
+        taken: u64,
         error: Option<i32>,
     ) -> Result<Counts, Refusal<'a>> {
         for input in inputs {
-            input.refuse_changed()?;
+            input.refuse_changed(self.rt)?;
         }
-        let alloc = self.rt.alloc();
+        let (alloc, output) = (self.rt.alloc(), self.target.name());
         match written {
+            Ok(Counts { clashes, .. }) if clashes > 0 && self.asked.rejects_clashes => {
+                Err(Refusal::Clashes {
+                    output,
+                    count: clashes,
+                })
+            }
             Ok(counts) => Ok(counts),
             Err(fault) => match inputs.get(fault.input) {
                 Some(input) => Err(input.refusal(alloc, &fault)),
-                None => Err(Refusal::of_fault(alloc, fault, self.target.name(), error)),
+                None if fault.reason == Reason::WriteFault => {
+                    let fault = Fault::at(fault.input, taken, fault.reason);
+                    Err(Refusal::of_fault(alloc, fault, output, error))
+                }
+                None => Err(Refusal::of_fault(alloc, fault, output, error)),
             },
         }
     }
@@ -182,15 +201,6 @@ fn files_of_run<'f, I: Read + Drop, M: Watch>(
         }
     }
     Ok(files)
-}
-
-/// The inputs that are regular files.
-fn regular_files<'f, I: Read + Drop, M: Watch>(
-    alloc: Global,
-    inputs: &'f [OpenInput<'_, I, M>],
-) -> Result<Vec<&'f RegularInput<M>>, AllocError> {
-    let files = inputs.iter().filter_map(|input| input.regular());
-    files.collect(alloc)
 }
 
 /// The size of all inputs in bytes, if it is known.

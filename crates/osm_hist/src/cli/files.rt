@@ -2,6 +2,7 @@
 use super::target::STANDARD;
 use super::{Host, Refusal};
 use std::alloc::AllocError;
+use std::fs;
 use std::fs::{File, Metadata};
 use std::io::{ErrorKind, Read};
 use std::time::SystemTime;
@@ -29,14 +30,24 @@ impl Stamp {
     }
 
     /// The stamp of an open file, if the file is a regular one and the system knows it.
-    fn of_file(file: &File) -> Option<Stamp> {
+    pub(super) fn of_file(file: &File) -> Option<Stamp> {
         Stamp::of(&file.metadata().ok()?)
     }
 
-    /// Refuses the open file `file`, whose name is `name`, if this isn't its stamp any longer.
-    pub(super) fn refuse_changed<'a>(self, file: &File, name: &'a str) -> Result<(), Refusal<'a>> {
-        match Stamp::of_file(file) {
-            Some(stamp) if stamp == self => Ok(()),
+    /// The stamp of standard input, if it is a regular file and the system knows it.
+    pub(super) fn of_input(rt: &impl Host) -> Option<Stamp> {
+        Stamp::of(&fs::metadata(rt, "/dev/stdin").ok()?)
+    }
+
+    /// Refuses the file with the name `name` if its stamp, which is `found` now, was this one and has changed. Of an
+    /// empty file only the size counts: a file of `/proc` has bytes, though its size is always 0.
+    pub(super) fn refuse_changed<'a>(
+        self,
+        found: Option<Stamp>,
+        name: &'a str,
+    ) -> Result<(), Refusal<'a>> {
+        match found {
+            Some(stamp) if stamp == self || stamp.size == 0 && self.size == 0 => Ok(()),
             Some(_) => Err(Refusal::Changed { name }),
             None => Err(Refusal::CannotRead { name, code: None }),
         }
@@ -63,13 +74,26 @@ pub(super) fn read<'a>(
     let stamp = Stamp::of_file(file);
     let bytes = read_stream(rt, file, name)?;
     if let Some(stamp) = stamp {
-        stamp.refuse_changed(file, name)?;
+        stamp.refuse_changed(Stamp::of_file(file), name)?;
+    }
+    Ok(bytes)
+}
+
+/// Reads standard input to its end. A regular file that changes while it is read is refused.
+pub(super) fn read_input<'a, I: Read>(
+    rt: &impl Host,
+    stdin: &mut I,
+) -> Result<Vec<u8>, Refusal<'a>> {
+    let stamp = Stamp::of_input(rt);
+    let bytes = read_stream(rt, stdin, STANDARD_INPUT)?;
+    if let Some(stamp) = stamp {
+        stamp.refuse_changed(Stamp::of_input(rt), STANDARD_INPUT)?;
     }
     Ok(bytes)
 }
 
 /// Reads the rest of `stream`, whose name is `name`.
-pub(super) fn read_stream<'a, S: Read>(
+fn read_stream<'a, S: Read>(
     rt: &impl Host,
     stream: &mut S,
     name: &'a str,

@@ -1,10 +1,11 @@
 //! Hints: one line after a refusal or a success, which says what to do.
 use super::files::STANDARD_INPUT;
-use super::part::{folder_of, id_of_regular, part_name};
+use super::part::{id_of_regular, is_of_job};
 use super::{Host, Refusal};
-use osm_files::{FORMAT_NAMES, Fault, Format, Reason};
+use osm_files::{Fault, Format, Reason};
 use osm_mirror::{
-    CUT, Content, Escaped, Explanation, FaultyLine, Quoted, RequestFault, content_of,
+    CUT, Content, Escaped, Explanation, FaultyLine, NamesFault, OtherOutput, Plan, PlanFault,
+    Quoted, RequestFault, Step, content_of, folder_of, line_of_number, line_of_part, part_name,
 };
 use std::alloc::Global;
 use std::fs::File;
@@ -17,6 +18,15 @@ const TOO_MANY_OPEN: [i32; 2] = [23, 24];
 /// How to need less memory.
 const LESS_MEMORY: &str =
     "--sorted holds no file in memory; osm_hist sort --output SORTED FILE sorts a regular file first";
+
+/// What to do if a stream isn't sorted, which can't be read again.
+const UNSORTED_STREAM: &str =
+    "a stream is read once: make it again, through a pipe into osm_hist sort --output SORTED -";
+
+/// What a derived change file does.
+const DERIVED: &str =
+    "a change file that was derived from two extracts deletes what left the region, at the version \
+    number that it has; --with-deletions takes changes of one history only";
 
 /// The hint if o5 files are the larger part of what was sharded.
 pub(super) const MORE_O5: &str =
@@ -53,16 +63,33 @@ pub(super) fn after_events(alloc: Global, count: usize) -> Option<String> {
     ).ok()
 }
 
+/// The hint after the event with this index of a plan, whose text is `text`, was refused for `fault`.
+pub(super) fn after_event(
+    rt: &impl Host,
+    text: &[u8],
+    plan: &Plan,
+    index: usize,
+    fault: &Fault,
+) -> Option<String> {
+    let (number, line) = line_of_part(text, plan.mirrors.len().saturating_add(index))?;
+    let hint = match plan.steps.get(index) {
+        Some(Step::Take { file, .. }) => of_fault(rt, file.as_str(), fault, None),
+        _ => explained(rt.alloc(), None, fault.reason.name()),
+    };
+    let (line, hint) = (Escaped(line), hint?);
+    format!(in rt.alloc(); "line {number}, {line}: {hint}").ok()
+}
+
+/// The hint after the plan with the text `text` was refused for `fault`: the faulty line, and what the reason means.
+pub(super) fn after_plan(alloc: Global, text: &[u8], fault: PlanFault) -> Option<String> {
+    let line = line_of_number(text, fault.line).map(|line| Escaped(line));
+    let hint = line.and_then(|line| format!(in alloc; "line {} is: {line}", fault.line).ok());
+    explained(alloc, hint, fault.reason.name())
+}
+
 /// The hint after OUT was written in the format `format`, if its name ends in the name of another one.
 pub(super) fn after_output(alloc: Global, output: &str, format: Format) -> Option<String> {
-    let (_, ending) = output.rsplit_once('.')?;
-    if ending == format.name() || !FORMAT_NAMES.contains(&ending) {
-        return None;
-    }
-    let (output, format) = (Escaped(output), format.name());
-    format!(in alloc;
-        "{output} is {format}, whatever its name ends in; --format chooses its format"
-    ).ok()
+    format!(in alloc; "{}", OtherOutput::of_name(output, format)?).ok()
 }
 
 /// The hint after the refusal `refusal`.
@@ -74,7 +101,13 @@ fn after_refusal(rt: &impl Host, refusal: &Refusal<'_>) -> Option<String> {
             "a TIME is as 2015-06-01T00:00:00Z, from 1970-01-01T00:00:01Z to 2106-02-07T06:28:15Z",
         Refusal::Request(RequestFault::NotAfterFirst { .. }) =>
             "the second TIME has to be later than the first",
-        Refusal::NotReason { .. } => "the manual lists the reasons; NoEnd is one of them",
+        Refusal::NotReason { .. } => "osm_hist --explain prints the reasons; NoEnd is one of them",
+        Refusal::List {
+            fault: NamesFault::NotEnded,
+            ..
+        } => "each name in LIST is ended by NUL, as find -print0 writes it, and not by a line feed",
+        Refusal::NotSynced { .. } => "OUT is the new file; it may be lost if the power fails",
+        Refusal::Clashes { .. } => DERIVED,
         Refusal::NotShard { .. } => "a shard is as 3/8, the third of eight; there are up to 9999",
         Refusal::Memory(_) => LESS_MEMORY,
         Refusal::CannotRead { name, code } => return of_system(rt, *name, (*code)?),
@@ -84,7 +117,6 @@ fn after_refusal(rt: &impl Host, refusal: &Refusal<'_>) -> Option<String> {
             return about(rt.alloc(), *output, "is a directory");
         }
         Refusal::File(_, name, fault, error) => return of_fault(rt, *name, fault, *error),
-        Refusal::Plan { fault, .. } => return explained(rt.alloc(), None, fault.reason.name()),
         _ => return None,
     };
     text(rt.alloc(), hint)
@@ -140,6 +172,7 @@ fn of_uncreated(rt: &impl Host, output: &str, code: Option<i32>) -> Option<Strin
         (Ok(found), _) if found.is_dir() => "is a directory",
         (Ok(found), _) if found.is_symlink() => "is a link",
         (Ok(found), _) if !found.is_file() => "is not a regular file",
+        (Ok(found), None) if !is_of_job(rt, &found, output) => "is a file of another user",
         (_, Some(code)) => return of_system(rt, folder_of(output), code),
         (_, None) => return format!(in alloc; "another run writes {}", Escaped(output)).ok(),
     };
@@ -151,18 +184,17 @@ fn of_uncreated(rt: &impl Host, output: &str, code: Option<i32>) -> Option<Strin
 fn of_fault(rt: &impl Host, name: &str, fault: &Fault, code: Option<i32>) -> Option<String> {
     let alloc = rt.alloc();
     let is_input = name == STANDARD_INPUT;
+    let is_regular = !is_input && id_of_regular(rt, name).is_some();
     let hint = match fault.reason {
         Reason::Memory => return text(alloc, LESS_MEMORY),
-        Reason::Unsorted if is_input => text(alloc, "osm_hist sort --output SORTED - sorts it"),
-        Reason::NoEnd if is_input => about(alloc, name, CUT),
-        _ if is_input => None,
-        Reason::WriteFault => code.and_then(|code| of_system(rt, name, code)),
-        Reason::Unsorted => {
+        Reason::Unsorted if is_regular => {
             format!(in alloc; "osm_hist sort --output SORTED {} sorts it", Quoted(name)).ok()
         }
-        Reason::ReadFault => of_unread(rt, name),
-        Reason::Failed | Reason::TooLong => None,
-        _ if id_of_regular(rt, name).is_some() => return of_content(rt, name, fault),
+        Reason::Unsorted => text(alloc, UNSORTED_STREAM),
+        Reason::WriteFault => code.and_then(|code| of_system(rt, name, code)),
+        Reason::ReadFault if !is_input => of_unread(rt, name),
+        Reason::ReadFault | Reason::Failed | Reason::TooLong => None,
+        _ if is_regular => return of_content(rt, name, fault),
         Reason::NoEnd => about(alloc, name, CUT),
         _ => None,
     };

@@ -10,12 +10,13 @@ use either::{Either, Left, Right};
 use osm_files::{
     Broken, EndMarked, Fault, FromFile, FromRead, ReadAt, Reason, WholeFile, WholeLines,
 };
-use osm_mirror::{FileEnd, read_retried};
+use osm_mirror::{FileEnd, Meter, read_retried};
 use std::alloc::Global;
 use std::cell::Cell;
 use std::fs::File;
-use std::io;
-use std::io::Read;
+use std::io::{IsTerminal, Read, Write};
+use std::time::Clock;
+use std::{fs, io};
 
 /// Watches the reads of the inputs of a command, which are numbered from 0.
 pub(super) trait Watch: Copy {
@@ -24,6 +25,16 @@ pub(super) trait Watch: Copy {
 
     /// The number of the input whose read failed last, if one failed.
     fn failed(&self) -> &Cell<Option<usize>>;
+}
+
+impl<'m, 'a, C: Clock, E: Write + IsTerminal> Watch for &'m Meter<'a, C, E> {
+    fn count(&self, count: usize) {
+        Meter::count(*self, count);
+    }
+
+    fn failed(&self) -> &Cell<Option<usize>> {
+        &self.failed
+    }
 }
 
 /// A file or a stream whose reads are watched. A read of a stream that a signal interrupts is tried again.
@@ -141,6 +152,8 @@ pub(super) struct OpenInput<'a, I: Read + Drop, M: Watch> {
     pub(super) id: Option<FileId>,
     /// Its bytes.
     pub(super) bytes: InputBytes<I, M>,
+    /// The stamp of the moment when it was opened, if it is a regular file: an empty one, or standard input, too.
+    stamp: Option<Stamp>,
     /// Its number.
     input: usize,
     /// What watches its reads.
@@ -158,7 +171,7 @@ impl<'a, I: Read + Drop, M: Watch> OpenInput<'a, I, M> {
         stdin: &mut Option<I>,
         watch: M,
     ) -> Result<OpenInput<'a, I, M>, Refusal<'a>> {
-        let (name, id, bytes) = if arg != STANDARD {
+        let (name, id, stamp, bytes) = if arg != STANDARD {
             let file = open(rt, arg)?;
             // The system is asked once: a change after this moment is noticed.
             let metadata = file.metadata().ok();
@@ -167,10 +180,11 @@ impl<'a, I: Read + Drop, M: Watch> OpenInput<'a, I, M> {
             let bytes = InputBytes::of_file(file, stamp, files, input, watch).map_err(
                 |fault| Refusal::of_fault(rt.alloc(), fault, arg, None),
             )?;
-            (arg, id, bytes)
+            (arg, id, stamp, bytes)
         } else if let Some(stream) = stdin.take() {
+            let stamp = Stamp::of_input(rt);
             let bytes = InputBytes::of_stream(Right(stream), files.end, input, watch);
-            (STANDARD_INPUT, FileId::of_input(rt), bytes)
+            (STANDARD_INPUT, FileId::of_input(rt), stamp, bytes)
         } else {
             let (name, code) = (STANDARD_INPUT, None);
             return Err(Refusal::CannotRead { name, code });
@@ -179,6 +193,7 @@ impl<'a, I: Read + Drop, M: Watch> OpenInput<'a, I, M> {
             name,
             id,
             bytes,
+            stamp,
             input,
             watch,
         })
@@ -200,14 +215,21 @@ impl<'a, I: Read + Drop, M: Watch> OpenInput<'a, I, M> {
         }
     }
 
-    /// Refuses a regular file that has changed since it was opened.
-    pub(super) fn refuse_changed(&self) -> Result<(), Refusal<'a>> {
-        match &self.bytes {
-            InputBytes::Regular(file, stamp) => {
-                stamp.refuse_changed(file.get_ref().inner.get_ref(), self.name)
-            }
-            InputBytes::Stream(_) => Ok(()),
-        }
+    /// Refuses a regular file that has changed since it was opened. An empty file is looked up by its name; if another
+    /// file has this name now, it counts as unchanged.
+    pub(super) fn refuse_changed(&self, rt: &impl Host) -> Result<(), Refusal<'a>> {
+        let (Some(stamp), name) = (self.stamp, self.name) else {
+            return Ok(());
+        };
+        let found = match &self.bytes {
+            InputBytes::Regular(file, _) => Stamp::of_file(file.get_ref().inner.get_ref()),
+            InputBytes::Stream(_) if name == STANDARD_INPUT => Stamp::of_input(rt),
+            InputBytes::Stream(_) => match fs::metadata(rt, name) {
+                Ok(found) if self.id == Some(FileId::of(&found)) => Stamp::of(&found),
+                _ => return Ok(()),
+            },
+        };
+        stamp.refuse_changed(found, name)
     }
 
     /// The refusal of this input for `fault`. It is `NoEnd` instead of `ReadFault` if no read of the system failed:

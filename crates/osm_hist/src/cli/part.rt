@@ -3,14 +3,12 @@
 //! A job holds a lock on its OUT.part. The lock ends with the process, so the next job can remove the file that a
 //! killed job left and make its own.
 use super::{Host, Refusal};
+use osm_mirror::{Place, folder_of, part_name};
 use std::alloc::{AllocError, Global};
 use std::fs::{File, Metadata, Permissions, TryLockError};
 use std::io::ErrorKind;
 use std::os::unix::fs::{MetadataExt, OpenOptionsExt, PermissionsExt, fchown};
 use std::{fs, io};
-
-/// The ending of the name of OUT.part.
-const ENDING: &str = ".part";
 
 /// The number of attempts to get OUT.part while other jobs make and rename files of that name.
 const ATTEMPTS: usize = 16;
@@ -18,8 +16,11 @@ const ATTEMPTS: usize = 16;
 /// The bits of a file's mode that permit reading, writing and running it.
 const PERMISSION_BITS: u32 = 0o777;
 
-/// Those of these bits that are for the file's group.
-const GROUP_BITS: u32 = 0o070;
+/// Those of these bits that are for the file's owner.
+const OWNER_BITS: u32 = 0o700;
+
+/// Those that are for everyone else but the file's group. The bits of the group are three places before them.
+const OTHER_BITS: u32 = 0o007;
 
 /// The mode of a new file, before the process's mask.
 const NEW_MODE: u32 = 0o666;
@@ -42,29 +43,21 @@ impl FileId {
         found.ok().map(|metadata| FileId::of(&metadata))
     }
 
+    /// The identity of an open file, if it is a regular one and the system knows its metadata.
+    pub(super) fn of_regular(file: &File) -> Option<FileId> {
+        let metadata = file.metadata().ok()?;
+        metadata.is_file().then(|| FileId::of(&metadata))
+    }
+
     /// The identity of standard input, which may be a file, too.
     pub(super) fn of_input(rt: &impl Host) -> Option<FileId> {
         FileId::of_known(fs::metadata(rt, "/dev/stdin"))
     }
 }
 
-/// Whether `name` is the name of the OUT.part of `output`.
-pub(super) fn is_part(name: &str, output: &str) -> bool {
-    name.strip_suffix(ENDING) == Some(output)
-}
-
-/// The name of the OUT.part of `output`.
-pub(super) fn part_name(alloc: Global, output: &str) -> Result<String, AllocError> {
-    format!(in alloc; "{output}{ENDING}")
-}
-
-/// The folder of the file `name`.
-pub(super) fn folder_of(name: &str) -> &str {
-    match name.rsplit_once('/') {
-        Some(("", _)) => "/",
-        Some((folder, _)) => folder,
-        None => ".",
-    }
+/// What the name `name` of a file to be made names. Links of its folder are followed.
+pub(super) fn place_of<'a>(rt: &impl Host, name: &'a str) -> Place<'a, FileId> {
+    Place::new(name, FileId::of_known(fs::metadata(rt, folder_of(name))))
 }
 
 /// The identity of the regular file `name`, or of the one that a link of that name leads to.
@@ -121,7 +114,7 @@ impl<'a> OutPart<'a> {
         };
         self.rename(rt)?;
         let synced = folder.sync_all();
-        synced.map_err(|_| Refusal::CannotSync { output })
+        synced.map_err(|_| Refusal::NotSynced { output })
     }
 
     /// Renames the file to OUT.
@@ -152,7 +145,7 @@ fn attempts(
         if let Some(made) = create(rt, name, output)? {
             return Ok(Some(made));
         }
-        if !remove_leftover(rt, name, inputs)? {
+        if !remove_leftover(rt, name, output, inputs)? {
             return Ok(None);
         }
     }
@@ -223,12 +216,12 @@ pub(super) fn unless_locked(attempt: Result<(), TryLockError>) -> io::Result<boo
     }
 }
 
-/// Gives OUT.part, which has this metadata, the owner of `old` if that is permitted, and then its mode. The permissions
-/// of the group are given only if the group was set.
+/// Gives OUT.part, which has this metadata, the owner of `old` if that is permitted, and then its mode. If the group
+/// wasn't set, the new group gets no permissions, and everyone else gets those that the old group had, too.
 fn copy_mode_and_owner(file: &File, metadata: &Metadata, old: &Metadata) -> io::Result<()> {
     let mut mode = old.mode() & PERMISSION_BITS;
     if !copy_owner(file, metadata, old) {
-        mode &= !GROUP_BITS;
+        mode = mode & OWNER_BITS | mode & mode >> 3 & OTHER_BITS;
     }
     if mode == metadata.mode() & PERMISSION_BITS {
         return Ok(());
@@ -246,11 +239,20 @@ fn copy_owner(file: &File, metadata: &Metadata, old: &Metadata) -> bool {
 }
 
 /// Removes the regular file that a killed job left, so that OUT.part may be made. Returns false if the file is an
-/// input. It doesn't remove a link, a folder, a device, or a file that another job has locked.
-fn remove_leftover(rt: &impl Host, name: &str, inputs: &[Option<FileId>]) -> io::Result<bool> {
+/// input. It doesn't remove a link, a folder, a device, a file of somebody else, or one that another job has locked.
+fn remove_leftover(
+    rt: &impl Host,
+    name: &str,
+    output: &str,
+    inputs: &[Option<FileId>],
+) -> io::Result<bool> {
     match leftover(rt, name) {
         Ok(file) => {
-            let id = FileId::of(&file.metadata()?);
+            let metadata = file.metadata()?;
+            let id = FileId::of(&metadata);
+            if !is_of_job(rt, &metadata, output) {
+                return Err(io::Error::from(ErrorKind::PermissionDenied));
+            }
             if file.try_lock().is_err() {
                 return Err(io::Error::from(ErrorKind::WouldBlock));
             }
@@ -267,6 +269,14 @@ fn remove_leftover(rt: &impl Host, name: &str, inputs: &[Option<FileId>]) -> io:
     }
 }
 
+/// Whether a job on OUT may have made the file with this metadata: its owner is the user of this process, the owner of
+/// OUT or the owner of the folder.
+pub(super) fn is_of_job(rt: &impl Host, metadata: &Metadata, output: &str) -> bool {
+    ["/proc/self", output, folder_of(output)].iter().any(|name| fs::metadata(rt, *name).is_ok_and(
+        |found| found.uid() == metadata.uid(),
+    ))
+}
+
 /// Opens the regular file `name`. A killed job may have left a file that nobody is permitted to write.
 fn leftover(rt: &impl Host, name: &str) -> io::Result<File> {
     if !fs::symlink_metadata(rt, name)?.is_file() {
@@ -279,7 +289,7 @@ fn leftover(rt: &impl Host, name: &str) -> io::Result<File> {
 }
 
 /// Whether `name` is the name of the file `id` itself, and not of a link to it.
-fn is_named(rt: &impl Host, name: &str, id: FileId) -> bool {
+pub(super) fn is_named(rt: &impl Host, name: &str, id: FileId) -> bool {
     fs::symlink_metadata(rt, name).is_ok_and(|metadata| metadata.is_file()
         && FileId::of(&metadata) == id)
 }

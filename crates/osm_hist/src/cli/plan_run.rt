@@ -1,20 +1,22 @@
 //! The job of a plan. Mirrors take files and pass on what they hold. At the end the job writes the files of the plan.
-ghost use Rattle.std.specs.Prelude.{◌<◌, length, IfOk};
+ghost use Rattle.std.specs.Prelude.{◌≡◌, ◌<◌, length, IfOk};
 ghost use Rattle.std.specs.List.{All};
 ghost use Rattle.osm_mirror.specs.fleet.Plan.{NamesItsMirrors};
 
 use super::files::{open, read};
-use super::part::{id_of_regular, part_name};
+use super::part::{FileId, id_of_regular, place_of};
 use super::refusal::Refusal;
-use super::target::{STANDARD, Target};
+use super::target::{STANDARD, Target, refuse_standard_output};
 use super::{Host, hint, print};
 use clap::ArgMatches;
 use osm_files::{Fault, Output, Reason, ToWrite, write_all};
-use osm_mirror::{Fleet, Plan, PlanWrite, Replies, Reply, Step, events_of, read_plan};
+use osm_mirror::{Plan, PlanRun, PlanWrite, Replies, Reply, Step, part_name, read_plan};
+use std::alloc::{AllocError, Global};
+use std::fs;
 use std::io::{IsTerminal, Write};
 
 /// Runs a plan and returns the exit status. It prints the reply to each step, and then makes the files of the write
-/// lines. If events were refused, a hint says so; if the plan is strict, no file is made then. No hint follows the
+/// lines. If events were refused, hints say so; if the plan is strict, no file is made then. No hint follows the
 /// refusal of a file that the plan names.
 pub(super) fn run_plan<O: Write, E: Write + IsTerminal>(
     rt: &impl Host,
@@ -24,108 +26,191 @@ pub(super) fn run_plan<O: Write, E: Write + IsTerminal>(
 ) -> u8 {
     let name = matches.get_str("plan").unwrap_or(STANDARD);
     let (strict, hints) = (matches.get_flag("strict"), matches.get_flag("hints"));
-    let plan = match plan_of(rt, name) {
-        Ok(plan) => plan,
+    let text = match read_text(rt, name) {
+        Ok(text) => text,
         Err(refusal) => return hint::report(rt, &refusal, err, hints),
     };
-    match run_lines(rt, name, &plan, strict, out) {
-        Ok(0) => 0,
-        Ok(count) if strict => {
-            hint::report(rt, &Refusal::EventsRefused { name, count }, err, hints)
+    let text = text.as_slice();
+    let plan = match read_plan(rt.alloc(), text) {
+        Ok(plan) => plan,
+        Err(fault) => {
+            let status = Refusal::of_plan(fault, name).report(err);
+            hint::advise(hint::after_plan(rt.alloc(), text, fault), err, hints);
+            return status;
         }
-        Ok(count) => {
-            hint::advise(hint::after_events(rt.alloc(), count), err, hints);
-            0
-        }
-        Err(refusal) => refusal.report(err),
+    };
+    let run = match run_steps(rt, name, &plan, out) {
+        Ok(run) => run,
+        Err(refusal) => return refusal.report(err),
+    };
+    if let Err(refusal) = write_files(rt, &run, run.writes(&plan, strict), out) {
+        return refusal.report(err);
     }
+    let count = run.refused();
+    if count == 0 {
+        return 0;
+    }
+    let status = if strict {
+        Refusal::EventsRefused { name, count }.report(err)
+    } else {
+        hint::advise(hint::after_events(rt.alloc(), count), err, hints);
+        0
+    };
+    for (index, reply) in run.replies.iter().enumerate() {
+        if let Reply::Refused(fault) = reply {
+            hint::advise(hint::after_event(rt, text, &plan, index, fault), err, hints);
+        }
+    }
+    status
 }
 
-/// The plan in the file `name`.
-fn plan_of<'a>(rt: &impl Host, name: &'a str) -> Result<Plan, Refusal<'a>>
-    ensures { IfOk result NamesItsMirrors }
-{
-    let text = read(rt, &mut open(rt, name)?, name)?;
-    match read_plan(rt.alloc(), text.as_slice()) {
-        Ok(plan) => Ok(plan),
-        Err(fault) => Err(Refusal::of_plan(fault, name)),
-    }
+/// The text of the plan in the file `name`.
+fn read_text<'a>(rt: &impl Host, name: &'a str) -> Result<Vec<u8>, Refusal<'a>> {
+    read(rt, &mut open(rt, name)?, name)
 }
 
-/// Runs the lines of the plan in the file `name`, and returns the number of refused events. After one, no file is made
-/// if `strict` is set. All files that the plan takes are read before the first step.
-fn run_lines<'p, O: Write>(
+/// Runs the steps of the plan in the file `name`, and prints the replies. All files that the plan takes are read before
+/// the first step.
+fn run_steps<'p, O: Write>(
     rt: &impl Host,
-    name: &str,
+    name: &'p str,
     plan: &'p Plan,
-    strict: bool,
     out: &mut O,
-) -> Result<usize, Refusal<'p>>
+) -> Result<PlanRun, Refusal<'p>>
     requires { NamesItsMirrors plan.now }
 {
     let (alloc, steps) = (rt.alloc(), plan.steps.as_slice());
     refuse_overwriting(rt, name, plan.writes.as_slice())?;
-    let files = read_taken(rt, steps)?;
-    let mut fleet = Fleet::new(alloc, plan.mirrors.as_slice())?;
-    let events = events_of(alloc, plan.mirrors.len(), steps, files.as_slice())?;
-    let replies = fleet.run(events.as_slice())?;
-    print(out, &format!(in alloc; "{}", Replies(replies.as_slice()))?)?;
-    let refused = replies.iter().filter(|it| **it != Reply::Taken).count();
-    if refused == 0 || !strict {
-        write_files(rt, &fleet, plan.writes.as_slice(), out)?;
-    }
-    Ok(refused)
+    let mut files = Vec::new(alloc);
+    refuse_output(rt, name, steps)?;
+    let indices = read_taken(rt, steps, &mut files)?;
+    let bytes = bytes_of(alloc, files.as_slice(), indices.as_slice())?;
+    let run = PlanRun::of_plan(alloc, plan, bytes.as_slice())?;
+    print(
+        out,
+        &format!(in alloc; "{}", Replies(run.replies.as_slice()))?,
+    )?;
+    Ok(run)
 }
 
-/// Refuses a write line that would replace the plan `name`, or the file of another write line by its OUT.part.
+/// Refuses a write line whose OUT.part is the plan `name`, or the file of an earlier write line.
 fn refuse_overwriting<'p>(
     rt: &impl Host,
-    name: &str,
+    name: &'p str,
     writes: &'p [PlanWrite],
 ) -> Result<(), Refusal<'p>> {
     let plan = id_of_regular(rt, name);
+    let mut places = vec![in rt.alloc(); place_of(rt, name)]?;
     for write in writes {
         let output = write.file.as_str();
-        let part = part_name(rt.alloc(), output)?;
-        let is_plan = |file: &str| file == name
-            || plan.is_some() && id_of_regular(rt, file) == plan;
-        if is_plan(output)
-            || is_plan(part.as_str())
-            || writes
-                .iter()
-                .any(|other| other.file.as_str() == part.as_str())
-        {
+        let (place, part) = (place_of(rt, output), part_name(rt.alloc(), output)?);
+        let is_plan = plan.is_some() && id_of_regular(rt, part.as_str()) == plan;
+        let is_lost = is_plan || places.iter().any(|earlier| earlier.is_part_of(&place));
+        if is_lost && Target::of_name(rt, output).has_part(rt) {
             return Err(Refusal::InputIsOutput { output });
         }
+        places.push(place)?;
     }
     Ok(())
 }
 
-/// The bytes that each step takes: those of its file, or none if the step takes no file.
-fn read_taken<'p>(rt: &impl Host, steps: &'p [Step]) -> Result<Vec<Vec<u8>>, Refusal<'p>> {
-    let mut files = Vec::new(rt.alloc());
+/// Refuses standard output if it is the plan `name` or a file that a step takes. The names of these are looked up only
+/// if it is a regular file.
+fn refuse_output<'p>(rt: &impl Host, name: &'p str, steps: &'p [Step]) -> Result<(), Refusal<'p>> {
+    let mut names = vec![in rt.alloc(); name]?;
     for step in steps {
-        let bytes = match step {
-            Step::Take { file, .. } => read(rt, &mut open(rt, file.as_str())?, file.as_str())?,
-            _ => Vec::new(rt.alloc()),
-        };
-        files.push(bytes)?;
+        if let Step::Take { file, .. } = step {
+            names.push(file.as_str())?;
+        }
     }
-    Ok(files)
+    let refused = refuse_standard_output(rt, None, names.as_slice());
+    if refused.is_err() {
+        // A file that isn't there comes first.
+        for name in names {
+            fs::metadata(rt, name).map_err(|error| Refusal::unread(name, &error))?;
+        }
+    }
+    refused
+}
+
+/// A file that steps take.
+#[derive(Drop)]
+struct TakenFile<'p> {
+    name: &'p str,
+    /// The identity of a regular file.
+    id: Option<FileId>,
+    bytes: Vec<u8>,
+}
+
+/// Appends to `files` those that the steps take, each once, in the order in which they are taken first. Files of one
+/// name are one file, and so are regular files of one identity. Returns for each step the index of its file; the index
+/// for a step that takes no file is that of no file.
+fn read_taken<'p>(
+    rt: &impl Host,
+    steps: &'p [Step],
+    files: &mut Vec<TakenFile<'p>>,
+) -> Result<Vec<usize>, Refusal<'p>>
+    ensures { IfOk result (λ indices. length indices.items ≡ length steps.now) }
+{
+    let mut indices = Vec::new(rt.alloc());
+    'steps: for step in steps {
+        let index = match step {
+            Step::Take { file, .. } => read_once(rt, file.as_str(), &mut *files)?,
+            _ => usize::MAX,
+        };
+        indices.push(index)?;
+    }
+    Ok(indices)
+}
+
+/// The bytes of the files with these indices; none for the index of no file.
+fn bytes_of<'f>(
+    alloc: Global,
+    files: &'f [TakenFile<'_>],
+    indices: &[usize],
+) -> Result<Vec<&'f [u8]>, AllocError>
+    ensures { IfOk result (λ bytes. length bytes.items ≡ length indices.now) }
+{
+    let mut bytes: Vec<&'f [u8]> = Vec::new(alloc);
+    'indices: for index in indices {
+        bytes.push(match files.get(*index) {
+            Some(file) => file.bytes.as_slice(),
+            None => &[],
+        })?;
+    }
+    Ok(bytes)
+}
+
+/// Reads the file `name`, unless it is one of `files`. Returns its index among them.
+fn read_once<'p>(
+    rt: &impl Host,
+    name: &'p str,
+    files: &mut Vec<TakenFile<'p>>,
+) -> Result<usize, Refusal<'p>> {
+    let (id, index) = (id_of_regular(rt, name), files.len());
+    let is_known = |file: &TakenFile<'_>| file.name == name || id.is_some() && file.id == id;
+    if let Some(known) = files.iter().position(is_known) {
+        return Ok(known);
+    }
+    let mut file = open(rt, name)?;
+    let bytes = read(rt, &mut file, name)?;
+    let id = FileId::of_regular(&file);
+    files.push(TakenFile { name, id, bytes })?;
+    Ok(index)
 }
 
 /// Makes the files of the write lines, in their order.
 fn write_files<'p, O: Write>(
     rt: &impl Host,
-    fleet: &Fleet,
+    run: &PlanRun,
     writes: &'p [PlanWrite],
     out: &mut O,
 ) -> Result<(), Refusal<'p>>
-    requires { All (λ write. write.mirror < length fleet.now) writes.now }
+    requires { All (λ write. write.mirror < length run.now.fleet) writes.now }
 {
     'writes: for write in writes {
         let name = write.file.as_str();
-        let written = fleet.mirror(write.mirror).write(write.format);
+        let written = run.file_of(write);
         let bytes = written.map_err(|fault| Refusal::of_fault(rt.alloc(), fault, name, None))?;
         make_file(rt, name, bytes.as_slice(), &mut *out)?;
     }

@@ -39,6 +39,11 @@ pub(crate) enum Refusal<'a> {
     ListNotUtf8 { name: &'a str },
     #[error("{output}.part: input is the output")]
     InputIsOutput { output: &'a str },
+    /// The list of names is OUT.
+    #[error("{output}: input is the output")]
+    ListIsOutput { output: &'a str },
+    #[error("standard output: input is the output")]
+    StandardOutputIsInput,
     /// `code` is the system's number of the error, if the system refused to open or to read the file.
     #[error("{name}: cannot read")]
     CannotRead { name: &'a str, code: Option<i32> },
@@ -51,6 +56,9 @@ pub(crate) enum Refusal<'a> {
     CannotWrite { name: &'a str },
     #[error("{output}.part: cannot sync")]
     CannotSync { output: &'a str },
+    /// OUT is the new file, but its name isn't on the disk yet, perhaps.
+    #[error("{output}: not synced")]
+    NotSynced { output: &'a str },
     #[error("{output}: cannot rename")]
     CannotRename { output: &'a str },
     /// A file is refused: the line that reports it, its name, its fault, and the system's number of a write error.
@@ -60,6 +68,9 @@ pub(crate) enum Refusal<'a> {
     Plan { name: &'a str, fault: PlanFault },
     #[error("{name}: {count} events refused")]
     EventsRefused { name: &'a str, count: usize },
+    /// Keys of the files have a visible and a deleted version.
+    #[error("{output}: {count} keys are visible and deleted")]
+    Clashes { output: &'a str, count: u64 },
     #[error("out of memory")]
     Memory(#[from(alloc)] AllocError),
     #[error("standard output: cannot write")]
@@ -144,9 +155,11 @@ impl<'a> Refusal<'a> {
             | Refusal::CannotCreate { .. }
             | Refusal::CannotWrite { .. }
             | Refusal::CannotSync { .. }
+            | Refusal::NotSynced { .. }
             | Refusal::CannotRename { .. }
             | Refusal::File(..)
             | Refusal::EventsRefused { .. }
+            | Refusal::Clashes { .. }
             | Refusal::Memory(_)
             | Refusal::StandardOutput => 1,
             _ => 2,

@@ -1,6 +1,6 @@
 //! Requests: the arguments of a command over files, parsed, and the list that may have the names of the files.
 use super::command::LIST;
-use super::files::{STANDARD_INPUT, input_name, open, read, read_stream};
+use super::files::{input_name, open, read, read_input};
 use super::part::FileId;
 use super::target::{STANDARD, Target};
 use super::{Host, Refusal};
@@ -75,7 +75,10 @@ impl<'a> Request<'a> {
         let Some(list) = self.list else {
             return Ok(self);
         };
-        let (name, read) = (input_name(list), read_names(alloc, text));
+        // A list of lines, which has no NUL, would be read as one long name.
+        let is_lines = text.contains('\n') && !text.contains('\0');
+        let must_end = is_lines || self.files.end != FileEnd::Any;
+        let (name, read) = (input_name(list), read_names(alloc, text, must_end));
         let names = read.map_err(|fault| Refusal::of_list(fault, name))?;
         refuse_twice(names.as_slice(), list == STANDARD)?;
         let files = InputFiles {
@@ -108,6 +111,8 @@ pub(super) struct FileRun<'a> {
     pub(super) shard: Option<Shard>,
     /// Whether the output is synced to the disk before it is renamed.
     pub(super) fsync: bool,
+    /// Whether OUT isn't replaced if keys have a visible and a deleted version.
+    pub(super) rejects_clashes: bool,
     pub(super) progress: bool,
     pub(super) summary: bool,
 }
@@ -132,6 +137,7 @@ impl<'a> FileRun<'a> {
             job,
             shard,
             fsync: matches.get_flag("fsync"),
+            rejects_clashes: matches.get_flag("reject-clashes"),
             progress: matches.get_flag("progress"),
             summary: matches.get_flag("summary"),
         }))
@@ -175,7 +181,7 @@ pub(super) struct InputFiles<'a> {
 
 /// Reads the list of files that the request names, where `-` is standard input. The list has the names, each ended by
 /// NUL. Returns its text, and the identity of its file if that is known. Without a list the text is empty. A list that
-/// has the name of OUT.part is refused.
+/// is OUT, or has the name of OUT.part, is refused.
 pub(super) fn read_list<'a, I: Read + Drop>(
     rt: &impl Host,
     request: &Request<'a>,
@@ -193,13 +199,13 @@ pub(super) fn read_list<'a, I: Read + Drop>(
         let bytes = read(rt, &mut file, arg)?;
         (bytes, FileId::of_known(file.metadata()))
     } else if let Some(mut stream) = stdin.take() {
-        (
-            read_stream(rt, &mut stream, STANDARD_INPUT)?,
-            FileId::of_input(rt),
-        )
+        (read_input(rt, &mut stream)?, FileId::of_input(rt))
     } else {
         return Err(Refusal::CannotRead { name, code: None });
     };
+    if let Some(run) = &request.run {
+        Target::of_arg(rt, run.output).refuse_list(rt, id)?;
+    }
     let text = String::from_utf8(bytes).map_err(|_| Refusal::ListNotUtf8 { name })?;
     Ok((text, id))
 }

@@ -24,6 +24,7 @@ pub(super) fn refuse_irregular<'a>(rt: &impl Host, names: &[&'a str]) -> Result<
 /// Refuses open files that can't be sharded. The system has to know the size of each, and at least one has to be OPL. A
 /// file of `/proc` has bytes, though its size is 0. Returns whether o5 files are the larger part of the input.
 pub(super) fn check_shardable<'a, I: Read + Drop, M: Watch>(
+    rt: &impl Host,
     inputs: &[OpenInput<'a, I, M>],
 ) -> Result<bool, Refusal<'a>> {
     let (mut has_opl, mut opl, mut o5) = (false, 0_u64, 0_u64);
@@ -36,7 +37,7 @@ pub(super) fn check_shardable<'a, I: Read + Drop, M: Watch>(
             return Err(Refusal::CannotRead { name, code });
         };
         if count > 0 && size == 0 {
-            input.refuse_changed()?;
+            input.refuse_changed(rt)?;
             return Err(Refusal::NotRegular { name });
         }
         if count > 0 && first[0] == O5_START {

@@ -1,11 +1,11 @@
 //! Targets of a job: a file that the job makes, an existing pipe or device, or standard output.
 ghost use Rattle.std.specs.Prelude.{◌≡◌};
 
-use super::part::{FileId, OutPart, folder_of, is_part};
+use super::part::{FileId, OutPart, id_of_regular, is_named};
 use super::{Host, Refusal};
 use either::{Either, Left, Right};
 use osm_files::Clear;
-use osm_mirror::write_retried;
+use osm_mirror::{folder_of, is_part, last_of, write_retried};
 use std::fs::File;
 use std::io::{ErrorKind, Seek, SeekFrom, Write};
 use std::{fs, io};
@@ -56,7 +56,7 @@ impl<'a> Target<'a> {
     fn of_system(rt: &impl Host, name: &'a str) -> Option<Target<'a>> {
         let folder = fs::canonicalize(rt, folder_of(name)).ok()?;
         let folder = folder.as_str();
-        let last = name.rsplit_once('/').map_or(name, |(_, last)| last);
+        let last = last_of(name);
         if folder == "/dev" && last == "stdout" || last == "1" && has_descriptors(rt, folder) {
             return Some(Target::StandardOutput);
         }
@@ -74,6 +74,28 @@ impl<'a> Target<'a> {
                 Err(Refusal::InputIsOutput { output })
             }
             _ => Ok(()),
+        }
+    }
+
+    /// Refuses the list of names with the identity `list` if it is OUT.
+    pub(super) fn refuse_list(
+        self,
+        rt: &impl Host,
+        list: Option<FileId>,
+    ) -> Result<(), Refusal<'a>> {
+        match self {
+            Target::File(output) if list.is_some_and(|id| is_named(rt, output, id)) => {
+                Err(Refusal::ListIsOutput { output })
+            }
+            _ => Ok(()),
+        }
+    }
+
+    /// Whether the job makes an OUT.part.
+    pub(super) fn has_part(self, rt: &impl Host) -> bool {
+        match self {
+            Target::File(output) => can_be_made(rt, output),
+            _ => false,
         }
     }
 
@@ -114,9 +136,30 @@ impl<'a> Target<'a> {
         Ok(Destination {
             part,
             writer,
+            taken: 0,
+            has_failed: false,
             error: None,
         })
     }
+}
+
+/// Refuses standard output if it is a regular file that is an input: `list`, which has the names of files, or one of the
+/// files `names`.
+pub(super) fn refuse_standard_output<'a>(
+    rt: &impl Host,
+    list: Option<FileId>,
+    names: &[&str],
+) -> Result<(), Refusal<'a>> {
+    let id = id_of_regular(rt, "/dev/stdout");
+    if id.is_some() && (list == id || names.iter().any(|name| id_of_argument(rt, *name) == id)) {
+        return Err(Refusal::StandardOutputIsInput);
+    }
+    Ok(())
+}
+
+/// The identity of the regular file that `arg` names as an input.
+fn id_of_argument(rt: &impl Host, arg: &str) -> Option<FileId> {
+    id_of_regular(rt, if arg == STANDARD { "/dev/stdin" } else { arg })
 }
 
 /// Whether a file of the name `name` can be made, as far as the name shows. A folder can't be replaced.
@@ -141,7 +184,11 @@ pub(super) struct Destination<'a, O> {
     part: Option<OutPart<'a>>,
     /// The file, the pipe or the device; or else standard output.
     writer: Either<File, O>,
-    /// The system's number of the last error, if a call failed and its error has a number.
+    /// The number of bytes that the writer took before its first failure, since it was emptied.
+    pub(super) taken: u64,
+    /// Whether a call failed.
+    has_failed: bool,
+    /// The system's number of the first error, if a call failed and its error has a number.
     pub(super) error: Option<i32>,
 }
 
@@ -177,12 +224,14 @@ impl<'a, O> Destination<'a, O> {
         }
     }
 
-    /// Notes the error of a call.
+    /// Notes the failure of a call.
     fn note<T>(&mut self, outcome: io::Result<T>) -> io::Result<T>
         ensures { result ≡ outcome }
     {
-        if let Err(error) = &outcome {
-            self.error = error.raw_os_error();
+        if let Err(error) = &outcome
+            && !self.has_failed
+        {
+            (self.has_failed, self.error) = (true, error.raw_os_error());
         }
         outcome
     }
@@ -200,6 +249,7 @@ impl<O: Write> Clear for Destination<'_, O> {
 
     fn clear(&mut self) -> io::Result<()> {
         let outcome = self.empty();
+        self.taken = 0;
         self.note(outcome)
     }
 }
@@ -207,10 +257,16 @@ impl<O: Write> Clear for Destination<'_, O> {
 impl<O: Write> Write for Destination<'_, O> {
     fn write(&mut self, bytes: &[u8]) -> io::Result<usize> {
         let outcome = write_retried(&mut self.writer, bytes);
+        if let Ok(count) = &outcome
+            && !self.has_failed
+        {
+            self.taken = self.taken.saturating_add(*count as u64);
+        }
         self.note(outcome)
     }
 
     fn flush(&mut self) -> io::Result<()> {
-        self.writer.flush()
+        let outcome = self.writer.flush();
+        self.note(outcome)
     }
 }

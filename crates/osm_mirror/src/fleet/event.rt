@@ -1,6 +1,6 @@
 //! Events of mirrors, and the replies of a fleet.
-ghost use Rattle.std.specs.Prelude.{IsTrue, ◌↔◌, ℕ, IfOk};
-ghost use Rattle.std.specs.List.{All};
+ghost use Rattle.std.specs.Prelude.{IsTrue, ◌≡◌, ◌↔◌, length, IfOk};
+ghost use Rattle.osm_mirror.specs.fleet.Event as spec;
 ghost use Rattle.osm_mirror.specs.fleet.Event.{IsWithin};
 
 use osm_files::{Fault, Format, Reason};
@@ -57,27 +57,27 @@ impl<F> MirrorEvent<F> {
     }
 }
 
-/// The events of `steps`, which name some of `mirrors` mirrors, as their events do. `files` has the bytes that each
-/// step takes.
+/// The events of `steps`, in their order. `files` has for each step the bytes of the file that it takes; the bytes for
+/// a step that takes no file don't count.
 pub fn events_of<'f>(
     alloc: Global,
-    mirrors: usize,
     steps: &[Step],
-    files: &'f [Vec<u8>],
+    files: &[&'f [u8]],
 ) -> Result<Vec<Event<'f>>, AllocError>
-    requires { All (IsWithin mirrors) steps.now }
-    ensures { IfOk result (λ events. All (IsWithin mirrors) events.items) }
+    requires { length files.now ≡ length steps.now }
+    ensures { IfOk result (λ events. events.items ≡ spec.events_of steps.now files.now) }
 {
     let mut events = Vec::new(alloc);
-    'steps: for (step, file) in steps.iter().zip(files) {
-        events.push(event_of(step, file.as_slice()))?;
+    'steps: for index in 0..steps.len() {
+        let (step, file) = (&steps[index], files[index]);
+        events.push(event_of(step, file))?;
     }
     Ok(events)
 }
 
-/// The event of `step`. `file` has the bytes that the step takes.
+/// The event of `step`. `file` has the bytes of the file that the step takes, if it takes one.
 fn event_of<'f>(step: &Step, file: &'f [u8]) -> Event<'f>
-    ensures { (mirrors : ℕ) → IsWithin mirrors step.now → IsWithin mirrors result }
+    ensures { result ≡ spec.event_of step.now file.entry }
 {
     match *step {
         Step::Take { mirror, .. } => Event::Take { mirror, file },

@@ -129,5 +129,19 @@ impl Plan {
     }
 }
 
+/// The line of a plan's text that has the part with this index, and its number from 1. The parts are the mirrors, then
+/// the steps, then the files that are written; an empty line has none.
+pub fn line_of_part(text: &[u8], index: usize) -> Option<(usize, &str)> {
+    let lines = str::from_utf8(text).ok()?.split('\n').enumerate();
+    let (number, line) = lines.filter(|(_, line)| !line.is_empty()).nth(index)?;
+    Some((number.saturating_add(1), line))
+}
+
+/// The line of a plan's text with this number, from 1.
+pub fn line_of_number(text: &[u8], number: u64) -> Option<&str> {
+    let index = usize::try_from(number.checked_sub(1)?).ok()?;
+    str::from_utf8(text).ok()?.split('\n').nth(index)
+}
+
 #[cfg(test)]
 mod tests;

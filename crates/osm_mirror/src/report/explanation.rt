@@ -17,10 +17,10 @@ pub struct Explanation {
 }
 
 impl Explanation {
-    /// The explanation of the reason with the name `reason`, if the program gives one of that name.
+    /// The explanation of the reason with the name `reason`, in any case, if the program gives one of that name.
     pub fn named(reason: &str) -> Option<Explanation> {
         for (name, meaning, remedy) in &REASONS {
-            if *name == reason {
+            if name.eq_ignore_ascii_case(reason) {
                 let (reason, meaning, remedy) = (*name, *meaning, *remedy);
                 return Some(Explanation {
                     reason,
@@ -184,6 +184,19 @@ pub static REASONS: [(&str, &str, &str); 28] = [
         "Count the mirrors from 0, or add a line full or latest.",
     ),
 ];
+
+/// The list of all reasons, each with its meaning in a line.
+#[derive(Clone, Copy, Debug)]
+pub struct ReasonList;
+
+impl Display for ReasonList {
+    fn fmt<W: fmt::Write>(&self, f: &mut Formatter<W>) -> fmt::Result {
+        for (reason, meaning, _) in &REASONS {
+            write!(f, "{reason}: {meaning}\n")?;
+        }
+        Ok(())
+    }
+}
 
 #[cfg(test)]
 mod tests;

@@ -11,6 +11,9 @@ pub enum NamesFault {
     /// The name with this number, from 1, is empty.
     #[error("name {number}: empty")]
     EmptyName { number: usize },
+    /// The last name lacks its NUL, which is required.
+    #[error("not ended by NUL")]
+    NotEnded,
     /// Memory ran out.
     #[error("out of memory")]
     Memory,
@@ -28,14 +31,22 @@ impl<T: Drop> From<AllocFailed<T>> for NamesFault {
     }
 }
 
-/// The names in a list, each ended by NUL. The last one may lack its NUL.
+/// The names in a list, each ended by NUL. The last one may lack its NUL unless `must_end` is set: a list that was cut
+/// within a name lacks it.
 ///
 /// # Errors
 ///
-/// The list has no name, or an empty one; or memory ran out.
-pub fn read_names<'a>(alloc: Global, list: &'a str) -> Result<Vec<&'a str>, NamesFault> {
+/// The list has no name, or an empty one, or lacks its last NUL; or memory ran out.
+pub fn read_names<'a>(
+    alloc: Global,
+    list: &'a str,
+    must_end: bool,
+) -> Result<Vec<&'a str>, NamesFault> {
     if list.is_empty() {
         return Err(NamesFault::NoNames);
+    }
+    if must_end && !list.ends_with('\0') {
+        return Err(NamesFault::NotEnded);
     }
     let mut names = Vec::new(alloc);
     for name in list.strip_suffix('\0').unwrap_or(list).split('\0') {

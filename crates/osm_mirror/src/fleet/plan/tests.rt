@@ -1,5 +1,5 @@
 //! Plans read, in the forms of docs/FORMATS.md and of the program's table, and written back.
-use crate::{Keep, Plan, PlanReason, Step, read_plan};
+use crate::{Keep, Plan, PlanReason, Step, line_of_number, line_of_part, read_plan};
 use std::alloc::{AllocError, Global};
 
 /// The plan of two mirrors that take a file each and pass it on.
@@ -113,4 +113,27 @@ fn reasons_have_names(rt: HostRuntime) {
     ] {
         assert_eq!(rt; reason.name(), name);
     }
+}
+
+#[test]
+fn parts_have_lines(rt: HostRuntime) {
+    let text = b"latest\n\ntake 0 a\nwrite 0 opl b";
+    for (index, line) in [
+        (0, Some((1, "latest"))),
+        (1, Some((3, "take 0 a"))),
+        (2, Some((4, "write 0 opl b"))),
+        (3, None),
+    ] {
+        assert!(rt; line_of_part(text, index) == line);
+    }
+    for (number, line) in [
+        (0, None),
+        (1, Some("latest")),
+        (2, Some("")),
+        (4, Some("write 0 opl b")),
+        (5, None),
+    ] {
+        assert!(rt; line_of_number(text, number) == line);
+    }
+    assert!(rt; line_of_part(b"\xff", 0).is_none());
 }

@@ -40,6 +40,9 @@ fn each_reason_is_explained_once(rt: HostRuntime) {
         let name = reason.name();
         assert!(rt; Explanation::named(name).is_some_and(|found| found.reason == name));
     }
+    for name in ["noend", "NOEND", "NoEnd"] {
+        assert!(rt; Explanation::named(name).is_some_and(|found| found.reason == "NoEnd"));
+    }
     for reason in [
         PlanReason::NotUtf8,
         PlanReason::BadWord,
@@ -48,7 +51,7 @@ fn each_reason_is_explained_once(rt: HostRuntime) {
     ] {
         assert!(rt; Explanation::named(reason.name()).is_some());
     }
-    for name in ["Memory", "Failed", "noend", ""] {
+    for name in ["Memory", "Failed", "NoEndX", ""] {
         assert!(rt; Explanation::named(name).is_none());
     }
     for (name, _, _) in REASONS {

@@ -1,5 +1,6 @@
 //! What files are by their first bytes.
-use super::{Content, content_of};
+use super::{Content, OtherOutput, content_of};
+use osm_files::Format;
 use std::alloc::Global;
 
 #[test]
@@ -40,24 +41,67 @@ fn files_of_other_formats_are_converted(rt: HostRuntime) {
         (
             "a.opl",
             b"<osm>".as_slice(),
-            "a.opl is XML: { osmium cat -f opl a.opl && echo '# end'; } | osm_hist .. --ended -",
+            "a.opl is XML: osm_hist .. --ended <(osmium cat -f opl a.opl && echo '# end')",
         ),
         (
             "a b.gz",
             b"\x1f\x8b\x08",
-            "a b.gz is compressed: { gzip -dc 'a b.gz' && echo '# end'; } | osm_hist .. --ended -",
+            "a b.gz is compressed: osm_hist .. --ended <(gzip -dc 'a b.gz' && echo '# end')",
         ),
         (
             "a.osc.gz",
             b"\x1f\x8b\x08",
-            "a.osc.gz is compressed XML: { osmium cat -f opl a.osc.gz && echo '# end'; } | osm_hist .. --ended -",
+            "a.osc.gz is compressed XML: osm_hist .. --ended <(osmium cat -f opl a.osc.gz && echo '# end')",
         ),
         (
             "a.o5m.gz",
             b"\x1f\x8b\x08",
-            "a.o5m.gz is compressed: gzip -dc a.o5m.gz | osm_hist .. -",
+            "a.o5m.gz is compressed: osm_hist .. <(gzip -dc a.o5m.gz)",
         ),
     ] {
         assert_eq!(rt; text_of(rt.alloc(), name, head).as_str(), text);
+    }
+}
+
+/// The text about the output `name`, or `none` if its name ends as `format` does.
+fn output_text(alloc: Global, name: &str, format: Format) -> String {
+    let text = match OtherOutput::of_name(name, format) {
+        Some(other) => format!(in alloc; "{other}"),
+        None => format!(in alloc; "none"),
+    };
+    text.unwrap_or(String::new(alloc))
+}
+
+#[test]
+fn names_of_outputs_show_another_format(rt: HostRuntime) {
+    for (name, format, text) in [
+        ("x.opl", Format::Opl, "none"),
+        ("x.txt", Format::Opl, "none"),
+        ("x", Format::Opl, "none"),
+        (
+            "x.o5m",
+            Format::Opl,
+            "x.o5m is opl, whatever its name ends in; --format chooses its format",
+        ),
+        (
+            "a b.osm.pbf",
+            Format::O5m,
+            "a b.osm.pbf is o5m, whatever its name ends in: osm_hist .. --format opl --output - | \
+            osmium cat - -F opl -o 'a b.osm.pbf'",
+        ),
+        (
+            "x.opl.gz",
+            Format::Opl,
+            "x.opl.gz is opl, whatever its name ends in: osm_hist .. --format opl --output - | \
+            osmium cat - -F opl -o x.opl.gz",
+        ),
+        (
+            "x.osc.zst",
+            Format::Opl,
+            "x.osc.zst is opl, whatever its name ends in: osm_hist .. --format opl --output - | \
+            osmium cat - -F opl -f osc | zstd > x.osc.zst",
+        ),
+    ] {
+        assert_eq!(rt; output_text(rt.alloc(), name, format).as_str(), text);
     }
 }

@@ -1,18 +1,35 @@
-use Rattle.std.proofs.Common.{◌≡◌, ◌++◌, ◌∷◌, [], length, subst, sym, rules}
-use Rattle.std.proofs.lemmas.List.Elements.{All-push, All-same, All-get_or}
-use Rattle.std.proofs.lemmas.Slice.Zip.{zip_turn}
-use Rattle.osm_mirror.specs.fleet.Event.{IsWithin}
+use Rattle.std.proofs.Common.{◌≡◌, ◌∙◌, ◌+◌, ◌<◌, ℕ, List, [], ◌∷◌, ◌++◌, length, take, get_or, refl, sym, ap, arith, length-take-le}
+use Rattle.std.proofs.lemmas.List.{take_more}
+use Rattle.std.specs.Borrow.{Bor}
+use Rattle.osm_files.proofs.SinkLaws.{front_at}
+use Rattle.osm_mirror.specs.fleet.Event.{Event, Step, event_of, events_of}
 use Rattle.osm_mirror.proofs.fleet.event.events_of.Goals as goal
+
+-- the event of one more step comes last
+events_more : (steps : List Step) (files : List (Bor (List ℕ))) (step : Step) (file : Bor (List ℕ)) → length steps ≡ length files
+    → events_of (steps ++ step ∷ []) (files ++ file ∷ []) ≡ events_of steps files ++ event_of step file ∷ []
+events_more [] [] step file same = refl
+events_more [] (f ∷ files) step file same = absurd (omega (arith, same))
+events_more (s ∷ steps) [] step file same = absurd (omega (arith, same))
+events_more (s ∷ steps) (f ∷ files) step file same =
+    ap (λ events. event_of s f ∷ events) (events_more steps files step file (omega (arith, same)))
 
 pub steps-preserved : goal.steps-preserved
 steps-preserved c =
     let steps = c.args.steps.now in
-    let step = c.in-Some.step.now in
-    let turn = zip_turn steps c.args.files.now c.steps.yielded c.into_iter-step-iterator.result c.steps.step-iterator c.next.new.self
-    c.next.result (search rules) (search rules) c.steps.yielded_by (c.in-Some.step, c.in-Some.file) c.in-Some.is c.next.ensures.steps in
-    let named : IsWithin c.args.mirrors step = subst (IsWithin c.args.mirrors) (sym (turn.2 step))
-    (All-get_or (IsWithin c.args.mirrors) steps (length c.steps.yielded) step turn.0 c.requires) in
-    let within = c.event_of.ensures c.args.mirrors named in
-    let pushed : c.push.new.self.items ≡ c.steps.events.items ++ c.event_of.result ∷ [] = search rules in
-    All-same (IsWithin c.args.mirrors) _ _ pushed (All-push
-    (IsWithin c.args.mirrors) c.steps.events.items c.event_of.result c.steps.invariant within)
+    let files = c.args.files.now in
+    let index = c.steps.index in
+    let step = c.index-steps-index.result in
+    let nothing : Bor (List ℕ) = record { ref_ptr = (0, 0); now = [] } in
+    let file = get_or files index nothing in
+    let within = c.steps-test.true in
+    let in_files : index < length files = omega (arith, within, c.requires) in
+    let same : length (take index steps) ≡ length (take index files) =
+    length-take-le index steps (omega (arith, within)) ∙ sym (length-take-le index files (omega (arith, in_files))) in
+    let step_at : take (index + 1) steps ≡ take index steps ++ step ∷ [] = front_at steps index step within c.index-steps-index.is in
+    let file_at : take (index + 1) files ≡ take index files ++ file ∷ [] = take_more files index nothing in_files in
+    c.in_ok-push.ensures.items ∙ ap (λ (es : List Event). es ++ c.event_of.result ∷ []) c.steps.invariant
+    ∙ ap (λ e. events_of (take index steps) (take index files) ++ e ∷ []) c.event_of.ensures
+    ∙ sym (events_more (take index steps) (take index files) step file same)
+    ∙ sym (ap (λ (ss : List Step). events_of ss (take index files ++ file ∷ [])) step_at)
+    ∙ sym (ap (λ (fs : List (Bor (List ℕ))). events_of (take (index + 1) steps) fs) file_at)

@@ -1,6 +1,8 @@
 //! Reports on standard error during a job and after it.
-use super::input::Watch;
-use osm_mirror::{BytesRead, Counts, JobTally, Progress, Relation, Version, is_report_due};
+use crate::report::job_summary::JobTally;
+use crate::report::reading::{BytesRead, is_report_due};
+use osm_merge::{Counts, Progress, Relation};
+use osm_model::Version;
 use std::cell::{Cell, RefCell};
 use std::fmt::Display;
 use std::io::{IsTerminal, Write};
@@ -10,9 +12,9 @@ use std::time::{Clock, Duration};
 const CLEAR_LINE: &str = "\r\x1b[K";
 
 /// Reports during a job. On a terminal a report overwrites the one before, at most once in half a second. Elsewhere
-/// each report is a line, at most once a minute.
+/// each report is a line, at most once a minute. If standard error fails, nothing can report it.
 #[derive(Drop)]
-pub(super) struct Meter<'a, C, E> {
+pub struct Meter<'a, C, E> {
     clock: &'a C,
     err: RefCell<&'a mut E>,
     /// Whether reports are wanted during the job.
@@ -23,16 +25,16 @@ pub(super) struct Meter<'a, C, E> {
     /// The number of bytes that the job read.
     bytes: Cell<u64>,
     /// What the job wrote.
-    pub(super) tally: Cell<JobTally>,
+    tally: Cell<JobTally>,
     /// The number of the input whose read failed last.
-    failed: Cell<Option<usize>>,
+    pub failed: Cell<Option<usize>>,
     /// The size of all input files in bytes, if it is known.
-    pub(super) size: Cell<Option<u64>>,
+    size: Cell<Option<u64>>,
 }
 
 impl<'a, C: Clock, E: Write + IsTerminal> Meter<'a, C, E> {
     /// A meter of a job that begins now.
-    pub(super) fn new(clock: &'a C, err: &'a mut E, is_wanted: bool) -> Meter<'a, C, E> {
+    pub fn new(clock: &'a C, err: &'a mut E, is_wanted: bool) -> Meter<'a, C, E> {
         let start = now(clock);
         let is_terminal = err.is_terminal();
         Meter {
@@ -49,17 +51,35 @@ impl<'a, C: Clock, E: Write + IsTerminal> Meter<'a, C, E> {
         }
     }
 
-    /// Writes `text` between `before` and `after` to standard error.
-    fn write<T: Display>(&self, before: &str, text: &T, after: &str) {
-        if let Ok(mut err) = self.err.try_borrow_mut() {
-            // If standard error fails, nothing can report it.
-            let _ = write!(err, "{before}{text}{after}");
-            let _ = err.flush();
+    /// Notes the size of all input files in bytes, if it is known.
+    pub fn note_size(&self, size: Option<u64>) {
+        self.size.set(size);
+    }
+
+    /// Adds `count` to the bytes that the job read, and reports if the interval has passed.
+    pub fn count(&self, count: usize) {
+        if !self.is_wanted {
+            return;
         }
+        let bytes = self.bytes.get().saturating_add(count as u64);
+        self.bytes.set(bytes);
+        let now = now(self.clock);
+        let since_last = now.saturating_sub(self.last.get());
+        if !is_report_due(self.is_terminal, since_last.as_millis()) {
+            return;
+        }
+        self.last.set(now);
+        let (before, after) = if self.is_terminal {
+            (CLEAR_LINE, "")
+        } else {
+            ("", "\n")
+        };
+        let size = self.size.get();
+        self.write(before, &BytesRead { bytes, size }, after);
     }
 
     /// Ends the reports. If the job wasn't refused, a last report has its counts.
-    pub(super) fn end(&self, counts: Option<&Counts>) {
+    pub fn end(&self, counts: Option<&Counts>) {
         if !self.is_wanted {
             return;
         }
@@ -72,13 +92,26 @@ impl<'a, C: Clock, E: Write + IsTerminal> Meter<'a, C, E> {
     }
 
     /// Prints the line `line`.
-    pub(super) fn print<T: Display>(&self, line: &T) {
+    pub fn print<T: Display>(&self, line: &T) {
         self.write("", line, "\n");
     }
 
+    /// What the job wrote.
+    pub fn tally(&self) -> JobTally {
+        self.tally.get()
+    }
+
     /// The time since the job began, in milliseconds.
-    pub(super) fn milliseconds(&self) -> u128 {
+    pub fn milliseconds(&self) -> u128 {
         now(self.clock).saturating_sub(self.start).as_millis()
+    }
+
+    /// Writes `text` between `before` and `after`.
+    fn write<T: Display>(&self, before: &str, text: &T, after: &str) {
+        if let Ok(mut err) = self.err.try_borrow_mut() {
+            let _ = write!(err, "{before}{text}{after}");
+            let _ = err.flush();
+        }
     }
 }
 
@@ -101,34 +134,6 @@ impl<'m, 'a, C, E> Progress for &'m Meter<'a, C, E> {
         let mut tally = self.tally.get();
         tally.written(version);
         self.tally.set(tally);
-    }
-}
-
-impl<'m, 'a, C: Clock, E: Write + IsTerminal> Watch for &'m Meter<'a, C, E> {
-    /// Adds `count` to the bytes that the job read, and reports if the interval has passed.
-    fn count(&self, count: usize) {
-        if !self.is_wanted {
-            return;
-        }
-        let bytes = self.bytes.get().saturating_add(count as u64);
-        self.bytes.set(bytes);
-        let now = now(self.clock);
-        let since_last = now.saturating_sub(self.last.get());
-        if !is_report_due(self.is_terminal, since_last.as_millis()) {
-            return;
-        }
-        self.last.set(now);
-        let (before, after) = if self.is_terminal {
-            (CLEAR_LINE, "")
-        } else {
-            ("", "\n")
-        };
-        let size = self.size.get();
-        self.write(before, &BytesRead { bytes, size }, after);
-    }
-
-    fn failed(&self) -> &Cell<Option<usize>> {
-        &self.failed
     }
 }
 
