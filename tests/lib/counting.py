@@ -8,7 +8,7 @@ TOP = Path(__file__).resolve().parent.parent.parent
 
 def scripts():
     """The paths of all scripts: those at the top, and those of tests/, tools/ and bench/."""
-    tops = [TOP / name for name in ("build", "check", "install", "osm_hist", "package", ".ci/run")]
+    tops = [TOP / name for name in ("build", "check", "install", "osm_hist", "osm-hist-mirror", "package", ".ci/run")]
     folders = [TOP / name for name in ("tests", "tests/lib", "tools", "bench")]
     return sorted(path for path in [*tops, *(path for folder in folders for path in folder.iterdir())] if path.is_file())
 
