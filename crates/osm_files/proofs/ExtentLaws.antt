@@ -1,5 +1,5 @@
 -- Reads of an extent of a file.
-use Rattle.std.proofs.Common.{◌≡◌, inl, inr, ℕ, min, ◌+◌, ◌-◌, ◌<◌, ◌≤◌, nat_lt, false, cond, List, [], ◌++◌, length}
+use Rattle.std.proofs.Common.{◌≡◌, inl, inr, ℕ, min, ◌+◌, ◌-◌, ◌<◌, ◌≤◌, nat_lt, false, cond, is_some, List, [], ◌++◌, length}
 use Rattle.std.proofs.Common.{take, drop, Option, Some, None, arith, refl, sym, ap, ◌∙◌, append_assoc, length-append}
 use Rattle.std.proofs.lemmas.List.{take-append-drop, take-append-le, length-drop, take_all, nil_from_length, drop_min}
 use Rattle.std.proofs.lemmas.Bool.{false≢true}
@@ -7,7 +7,8 @@ use Rattle.std.proofs.lemmas.Bool.Decides.{nat_tests}
 use Rattle.std.proofs.CharBoundary.{drop_past_prefix}
 use Rattle.osm_files.specs.Input.{InputRest, with_front, whole_input, Gave, GivesOne}
 use Rattle.osm_files.specs.ReadAt.{AreAt, AreLast}
-use Rattle.osm_files.specs.Extent.{ExtentCanGive, framed}
+use Rattle.osm_files.specs.Extent.{ExtentCanGive, framed, read_fault_if}
+use Rattle.osm_files.proofs.FailureLaws.{unfailed_long}
 
 -- ---- bytes at offsets
 nothing_at : (known : Option (List ℕ)) (next : ℕ) → AreAt known next []
@@ -55,7 +56,7 @@ module _ (Fails : Type 0) (known : Option (List ℕ)) (next end : ℕ) where
       → ExtentCanGive Fails known (next + length front) end later → ExtentCanGive Fails known next end (with_front front later)
   gave_extent front later within at gives = record {
     within = omega (arith, within, gives.within, length-append front later.bytes);
-    broken = gives.broken ∙ fewer front later within;
+    failure = gives.failure ∙ ap read_fault_if (fewer front later within);
     bytes = joined_at known next front later.bytes at gives.bytes;
     why = λ few. elim (gives.why (omega (arith, within, few, length-append front later.bytes))) [
       | inl fails ↦ inl fails
@@ -67,20 +68,22 @@ module _ (Fails : Type 0) (known : Option (List ℕ)) (next end : ℕ) where
   pub nothing_left : (c : InputRest) → end ≤ next → ExtentCanGive Fails known next end c → c ≡ whole_input []
   nothing_left c read gives =
       let none : c.bytes ≡ [] = nil_from_length c.bytes (omega (arith, gives.within, read)) in
-      let unbroken : c.broken ≡ false = gives.broken ∙ grind (arith, nat_tests) in
-      λ i. record { bytes = none i; broken = unbroken i }
+      let read_all : nat_lt (length c.bytes) (end - next) ≡ false = grind (arith, nat_tests) in
+      let unbroken : c.failure ≡ None = gives.failure ∙ ap read_fault_if read_all in
+      λ i. record { bytes = none i; failure = unbroken i }
 
   pub gives_nothing : end ≤ next → ExtentCanGive Fails known next end (whole_input [])
   gives_nothing read = record {
     within = omega arith;
-    broken = grind (arith, nat_tests);
+    failure = ap read_fault_if (let read_all : false ≡ nat_lt (length {A = ℕ} []) (end - next) = grind (arith, nat_tests) in read_all);
     bytes = nothing_at known next;
     why = λ few. absurd (omega (arith, few, read));
   }
 
   -- an extent some bytes of which weren't read doesn't end
   pub not_ended : next < end → ExtentCanGive Fails known next end (whole_input []) → ⊥
-  not_ended unread gives = false≢true (gives.broken ∙ grind (arith, nat_tests))
+  not_ended unread gives =
+      false≢true (sym (unfailed_long (nat_lt 0 (end - next)) (sym gives.failure)) ∙ grind (arith, nat_tests))
 
 -- ---- extents between bytes before them and bytes after them
 module _ (before after : List ℕ) where
@@ -88,13 +91,13 @@ module _ (before after : List ℕ) where
   pub framed_front : (front rest : List ℕ) (c : InputRest) → before ≡ front ++ rest
       → framed before after c ≡ with_front front (framed rest after c)
   framed_front front rest c is =
-      let tail : List ℕ = c.bytes ++ cond c.broken [] after in
-      λ i. record { bytes = (ap (λ xs. xs ++ tail) is ∙ append_assoc front rest tail) i; broken = c.broken }
+      let tail : List ℕ = c.bytes ++ cond (is_some c.failure) [] after in
+      λ i. record { bytes = (ap (λ xs. xs ++ tail) is ∙ append_assoc front rest tail) i; failure = c.failure }
 
 -- bytes of an extent were read
 pub framed_extent : (after front : List ℕ) (c : InputRest) → framed [] after (with_front front c) ≡ with_front front (framed [] after c)
 framed_extent after front c =
-    λ i. record { bytes = append_assoc front c.bytes (cond c.broken [] after) i; broken = c.broken }
+    λ i. record { bytes = append_assoc front c.bytes (cond (is_some c.failure) [] after) i; failure = c.failure }
 
 -- bytes that come from a slice
 from_slice : (bytes front rest : List ℕ) → Gave {R = List ℕ} (λ xs c. c ≡ whole_input xs) bytes rest front → bytes ≡ front ++ rest

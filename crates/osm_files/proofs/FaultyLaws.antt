@@ -1,18 +1,21 @@
 -- Bytes after a whole faulty unit change no verdict.
-use Rattle.std.proofs.Common.{◌≡◌, ◌⊎◌, inl, inr, ℕ, zero, suc, ◌+◌, ◌-◌, ◌≤◌, ◌<◌, ◌^◌, true, false, cond, List, [], ◌∷◌, ◌++◌, length}
+use Rattle.std.proofs.Common.{◌≡◌, ◌⊎◌, ⊎_elim, inl, inr, ℕ, zero, suc, ◌+◌, ◌-◌, ◌≤◌, ◌<◌, ◌^◌, true, false, cond, List, [], ◌∷◌, ◌++◌}
+use Rattle.std.proofs.Common.{length}
 use Rattle.std.proofs.Common.{drop, take, refl, sym, ap, ◌∙◌, arith, Option, Some, None, Ok, Err, length-drop, nat_lt}
 use Rattle.std.proofs.lemmas.List.{append-nil, drop-append-le}
 use Rattle.std.proofs.Math.Seq.{take-append-add}
 use Rattle.std.proofs.lemmas.Bool.{cases_lt}
 use Rattle.osm_model.specs.Data.{VersionData}
+use Rattle.osm_files.specs.Input.{failed_after}
+use Rattle.osm_files.specs.declared.reason.Reason.{Reason}
 use Rattle.osm_files.specs.declared.reason.Reason.TheVariants.{Unsorted, ReadFault}
 use Rattle.osm_files.specs.Groups.{sorted_source}
-use Rattle.osm_files.specs.LoadLaws.{broken_after}
+use Rattle.osm_files.specs.LoadLaws.{IsFaultyWhole}
 use Rattle.osm_files.specs.SourceLaws.{verdict_within, IsFaultyWithin, FaultyOrClosed, FaultyStays, MalformedStays}
 use Rattle.osm_files.specs.Stream.{Verdict, verdict_at, Placed, new_placed, SourceRest, end_refused, front}
 use Rattle.osm_files.specs.Units.{FileStateData, InOpl, UnitResult, FileUnit, unit_at, found_then, units, start_of}
 use Rattle.osm_files.specs.Verdict.{length_limit, too_long_verdict, file_units, verdict, is_below, sorted_verdict, verdict_sorted}
-use Rattle.osm_files.proofs.HoldLaws.{whole_source_is_held, broken_source_ends, long_source_ends}
+use Rattle.osm_files.proofs.HoldLaws.{whole_source_is_held, failed_source_ends, long_source_ends}
 use Rattle.osm_files.proofs.StepLaws.{unit_sized, units_step, units_stop}
 use Rattle.osm_files.proofs.StayLaws.{unit_stays}
 use Rattle.osm_files.proofs.LoadLaws.{unnamed}
@@ -202,14 +205,15 @@ never_none bytes close e = elim (faulty_or_closed bytes) [
   | inr h ↦ absurd (let f : None ≡ Some close = sym e ∙ h close in cc)
 ]
 
--- if an error follows the bytes, their source is refused
-pub broken_is_refused : (input : ℕ) (bytes : List ℕ) → (sorted_source input (broken_after bytes)).refusal ≡ None → ⊥
-broken_is_refused input bytes e =
+-- if bytes are refused at their end, their source is refused
+pub failed_is_refused : (reason : Reason) (input : ℕ) (bytes : List ℕ) → (sorted_source input (failed_after reason bytes)).refusal ≡ None
+    → ⊥
+failed_is_refused reason input bytes e =
     elim (cases_lt (length bytes) (2 ^ 62)) [
-      | inl short ↦ never_none bytes (verdict_at (length bytes) ReadFault)
-          (unnamed input (verdict_within (verdict_at (length bytes) ReadFault) bytes) (sym (broken_source_ends input bytes short) ∙ e))
+      | inl short ↦ never_none bytes (verdict_at (length bytes) reason)
+          (unnamed input (verdict_within (verdict_at (length bytes) reason) bytes) (sym (failed_source_ends reason input bytes short) ∙ e))
       | inr long ↦
-          let held = whole_source_is_held input bytes (ap (λ s. s.refusal) (sym (long_source_ends input bytes long)) ∙ e) in
+          let held = whole_source_is_held input bytes (ap (λ s. s.refusal) (sym (long_source_ends reason input bytes long)) ∙ e) in
           absurd (let short = held.short in omega (arith, short, long))
     ]
 
@@ -280,6 +284,34 @@ module _ (fault : Verdict) where
       let b = file_begins bytes more short in
       ap (λ s. s.refusal) (b.same ∙ ap (λ s. units b.close s 0 (bytes ++ b.others)) same ∙ h.stays b.others b.close)
       ∙ sym (ap (λ s. s.refusal) (h.faulty too_long_verdict)) ∙ faulty too_long_verdict
+
+-- A whole faulty unit stays faulty if more bytes follow.
+pub faulty_within_stays : (bytes more : List ℕ) (fault : Verdict) → IsFaultyWithin bytes fault → IsFaultyWithin (bytes ++ more) fault
+unfolding of_units
+faulty_within_stays [] more fault faulty =
+    absurd (not_both fault
+    (sym (faulty (verdict_at 0 ReadFault)) ∙ ap (λ s. sorted_verdict s.refusal None s.list) (nothing_closes (verdict_at 0 ReadFault)))
+    (sym (faulty (verdict_at 1 ReadFault)) ∙ ap (λ s. sorted_verdict s.refusal None s.list) (nothing_closes (verdict_at 1 ReadFault))))
+faulty_within_stays (b ∷ bytes) more fault faulty = elim (says (b ∷ bytes)) [
+  | inl (v, within, stays) ↦ λ close. stays more (Some close) ∙ sym (within too_long_verdict) ∙ faulty too_long_verdict
+  | inr closes ↦ absurd (not_both fault (sym (faulty (verdict_at 0 ReadFault)) ∙ closes (verdict_at 0 ReadFault))
+      (sym (faulty (verdict_at 1 ReadFault)) ∙ closes (verdict_at 1 ReadFault)))
+]
+
+-- A whole malformed unit stays malformed if more bytes follow.
+pub malformed_whole_stays : (bytes more : List ℕ) (fault : Verdict) → IsFaultyWhole bytes fault → IsFaultyWhole (bytes ++ more) fault
+malformed_whole_stays [] more fault faulty =
+    absurd (not_both fault
+    (sym (faulty (verdict_at 0 ReadFault)) ∙ ap (λ s. s.refusal) (nothing_closes (verdict_at 0 ReadFault)))
+    (sym (faulty (verdict_at 1 ReadFault)) ∙ ap (λ s. s.refusal) (nothing_closes (verdict_at 1 ReadFault))))
+malformed_whole_stays (b ∷ bytes) more fault faulty =
+    ⊎_elim (λ (h : Closes (start_of (b ∷ bytes)) 0 (b ∷ bytes)). absurd (not_both fault
+    (sym (faulty (verdict_at 0 ReadFault)) ∙ ap (λ s. s.refusal) (h.closes (verdict_at 0 ReadFault)))
+    (sym (faulty (verdict_at 1 ReadFault)) ∙ ap (λ s. s.refusal) (h.closes (verdict_at 1 ReadFault)))))
+    (λ (h : RefusesUnit (start_of (b ∷ bytes)) 0 (b ∷ bytes)).
+    λ close. ap (λ s. s.refusal) (h.stays more (Some close)) ∙ sym (ap (λ s. s.refusal) (h.faulty too_long_verdict))
+    ∙ faulty too_long_verdict)
+    (splits (length (b ∷ bytes)) (start_of (b ∷ bytes)) 0 (b ∷ bytes) (omega arith))
 
 -- Bytes after a whole faulty unit don't change the verdict on order.
 pub faulty_stays : FaultyStays

@@ -12,6 +12,7 @@ use Rattle.osm_model.specs.Data.{VersionData}
 use Rattle.osm_model.specs.Order.{version_cmp}
 use Rattle.osm_model.specs.Sets.{from_list}
 use Rattle.osm_model.specs.VersionSet.{VersionSet}
+use Rattle.osm_files.specs.declared.reason.Reason.{Reason}
 use Rattle.osm_files.specs.declared.fault.Fault.{Fault}
 use Rattle.osm_files.specs.declared.set_order.SetOrder.{SetOrder}
 use Rattle.osm_files.specs.declared.set_order.SetOrder.TheVariants.{Rises, Falls, Unknown}
@@ -24,7 +25,7 @@ use Rattle.osm_files.specs.RunBreaks.{IsSortedByKeys, BreaksAt, IsBreakOf}
 use Rattle.osm_files.specs.KeyOrder.{bytes_between, IsOrderOfLines}
 use Rattle.osm_files.specs.Groups.{FileCanGive, new_source, sorted_source}
 use Rattle.osm_files.specs.Held.{HoldsSorted}
-use Rattle.osm_files.specs.Input.{InputRest, GivesOne}
+use Rattle.osm_files.specs.Input.{InputRest, GivesOne, whole_input}
 use Rattle.osm_files.specs.Load.{StopsOpening}
 use Rattle.osm_files.specs.O5.{o5m_header, end_byte}
 use Rattle.osm_files.specs.Position.{units_from}
@@ -36,7 +37,7 @@ use Rattle.osm_files.specs.SortedRun.{can_split, front_run, rest_run, split_run,
 use Rattle.osm_files.specs.Source.{SourceStep}
 use Rattle.osm_files.specs.Stream.{SourceRest}
 use Rattle.osm_files.specs.Units.{InOpl, BeforeHeader, start_of}
-use Rattle.osm_files.proofs.FaultyLaws.{broken_is_refused}
+use Rattle.osm_files.proofs.FaultyLaws.{failed_is_refused}
 use Rattle.osm_files.proofs.HoldLaws.{whole_source_is_held}
 use Rattle.osm_files.proofs.JoinLaws.{split_starts}
 use Rattle.osm_files.proofs.KeyOrderLaws.{rising_file}
@@ -56,14 +57,14 @@ pub step_keeps : (before after : SourceRest VersionData Fault) (v : VersionData)
 step_keeps before after v (still, is, same) = ap (λ s. s.refusal) is ∙ sym (ap refusal_of same)
 
 -- an input whose source ends without a refusal gives a sorted file
-given_sorted : (input : ℕ) (bytes : List ℕ) (broken : Bool)
-    → (sorted_source input (record { bytes = bytes; broken = broken })).refusal ≡ None
-    → GivesSortedFile (record { bytes = bytes; broken = broken })
-given_sorted input bytes true whole = absurd (broken_is_refused input bytes whole)
-given_sorted input bytes false whole = (
+given_sorted : (input : ℕ) (bytes : List ℕ) (failure : Option Reason)
+    → (sorted_source input (record { bytes = bytes; failure = failure })).refusal ≡ None
+    → GivesSortedFile (record { bytes = bytes; failure = failure })
+given_sorted input bytes (Some reason) whole = absurd (failed_is_refused reason input bytes whole)
+given_sorted input bytes None whole = (
   refl,
   (
-    from_list {R = version_cmp} (sorted_source input (record { bytes = bytes; broken = false })).list,
+    from_list {R = version_cmp} (sorted_source input (whole_input bytes)).list,
     whole_source_is_held input bytes whole,
   ),
 )
@@ -72,7 +73,7 @@ pub source_sorted : {R : Type 0} (can : R → InputRest → Type 0) (input : ℕ
     → EndsWhole (FileCanGive can) (new_source input reader) → GivesOne (can reader) GivesSortedFile
 unfolding sorted_source units_from
 source_sorted can input reader (still, (c, gives, is), whole) =
-    (c, gives, given_sorted input c.bytes c.broken (ap refusal_of is ∙ whole))
+    (c, gives, given_sorted input c.bytes c.failure (ap refusal_of is ∙ whole))
 
 -- A source that stops with a fault stops so for something that its reader can give.
 pub source_stops : {R : Type 0} (can : R → InputRest → Type 0) (one : R → InputRest) (possible : (r : R) → can r (one r)) (input : ℕ)

@@ -3,6 +3,7 @@ use Rattle.std.proofs.Common.{◌≡◌, inr, ℕ, ◌+◌, ◌<◌, ◌^◌, fa
 use Rattle.std.proofs.Common.{Some, None, option_map, IfSome}
 use Rattle.osm_files.specs.declared.fault.Fault.{Fault}
 use Rattle.osm_files.specs.Fault.{too_long_fault}
+use Rattle.osm_files.specs.EndRule.{by_test}
 use Rattle.osm_files.specs.Input.{InputRest, with_front}
 use Rattle.osm_files.specs.Verdict.{too_long_verdict, length_limit}
 use Rattle.osm_files.specs.Position.{KnownPosition, rest_of_bytes, fault_of, Keeps, Halts, StopsFilling}
@@ -23,7 +24,8 @@ keeps_on None b c h k = tt
 keeps_on {A} (Some x) b c h k = let P : Option A → Type 0 = λ o. IfSome o (λ y. c ≡ Some y) in subst P h k
 
 -- Before the end of input the bytes ahead are those held and those to come.
-pub ahead_open : (p : KnownPosition) → p.ended ≡ false → rest_of_bytes p ≡ option_map (with_front p.held) p.rest
+pub ahead_open : (p : KnownPosition) → p.ended ≡ false
+    → rest_of_bytes p ≡ option_map (λ c. with_front p.held (by_test p.end c)) p.rest
 ahead_open p unended = rw unended refl
 
 too_long_is : (input : ℕ) → too_long_fault input ≡ fault_of input too_long_verdict
@@ -32,13 +34,13 @@ too_long_is input = refl
 
 -- there is one byte more than those held
 more_there : (held front : List ℕ) (t : InputRest) → 0 < length front →
-    (b : ℕ) × (more : List ℕ) × ((with_front held (with_front front t)).bytes ≡ held ++ b ∷ more)
+    (b : ℕ) × (more : List ℕ) × (held ++ (front ++ t.bytes) ≡ held ++ b ∷ more)
 more_there held [] t some = absurd (omega (arith, some))
 more_there held (b ∷ front) t some = (b, front ++ t.bytes, refl)
 
 from_mapped : (p : KnownPosition) (fault : Fault) (front : List ℕ) (rest : Option InputRest) → 0 < length front →
     p.offset + length p.held + 1 ≡ 2 ^ 62 → fault ≡ too_long_fault p.input
-    → IfSome (option_map (with_front p.held) (option_map (with_front front) rest)) (λ c. Halts p c fault)
+    → IfSome (option_map (λ c. with_front p.held (by_test p.end c)) (option_map (with_front front) rest)) (λ c. Halts p c fault)
 from_mapped p fault front None some full is = tt
 from_mapped p fault front (Some t) some full is = inr (full, more_there p.held front t some, is ∙ too_long_is p.input)
 
@@ -48,5 +50,5 @@ pub fill_full : (p : KnownPosition) (rest : Option InputRest) (front : List ℕ)
     fault ≡ too_long_fault p.input → StopsFilling p fault
 fill_full p rest front fault unended gave some full is =
     inr (subst (λ (o : Option InputRest). IfSome o (λ c. Halts p c fault))
-    (sym (ahead_open p unended ∙ ap (option_map (with_front p.held)) gave))
+    (sym (ahead_open p unended ∙ ap (option_map (λ c. with_front p.held (by_test p.end c))) gave))
     (from_mapped p fault front rest some full is))

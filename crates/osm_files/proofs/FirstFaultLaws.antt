@@ -49,7 +49,7 @@ use Rattle.osm_files.proofs.FileLaws.{header_found, header_tested, last_before_h
 use Rattle.osm_files.proofs.StepLaws.{unit_sized}
 use Rattle.osm_files.proofs.PositionLaws.{from_is}
 use Rattle.osm_files.proofs.OffsetLaws.{input_follows}
-use Rattle.osm_files.proofs.FaultyLaws.{broken_is_refused}
+use Rattle.osm_files.proofs.FaultyLaws.{failed_is_refused}
 use Rattle.osm_files.proofs.HoldLaws.{source_refusal, source_gives_held, whole_source_is_held}
 use Rattle.osm_files.proofs.RefusedLaws.{Meets, early, goes_on, stops, last_of, at_last, faulty_input_gives}
 
@@ -391,17 +391,17 @@ first_fault c v is =
     })
 
 -- An input without a verdict is a sorted file, whose source gives its whole set.
-whole_given : (input : ℕ) (bytes : List ℕ) (broken : Bool) →
-    (let c : InputRest = record { bytes = bytes; broken = broken } in (sorted_source input c).refusal ≡ None →
-    (broken ≡ false) × ((held : VersionSet) × HoldsSorted bytes held × (sorted_source input c ≡ set_given held)))
-whole_given input bytes true whole = absurd (broken_is_refused input bytes whole)
-whole_given input bytes false whole =
+whole_given : (input : ℕ) (bytes : List ℕ) (failure : Option Reason) →
+    (let c : InputRest = record { bytes = bytes; failure = failure } in (sorted_source input c).refusal ≡ None →
+    (failure ≡ None) × ((held : VersionSet) × HoldsSorted bytes held × (sorted_source input c ≡ set_given held)))
+whole_given input bytes (Some reason) whole = absurd (failed_is_refused reason input bytes whole)
+whole_given input bytes None whole =
     let held = whole_source_is_held input bytes whole in
     (refl, (_, held, source_gives_held input bytes _ held))
 
 pub sources_give : SourcesGive
 sources_give input c =
     elim (input_verdict c) as (λ v. input_verdict c ≡ v → IsGivenBy input c (sorted_source input c)) [
-      | None ↦ λ clean. inl (whole_given input c.bytes c.broken (source_refusal input c ∙ ap (option_map (fault_of input)) clean))
+      | None ↦ λ clean. inl (whole_given input c.bytes c.failure (source_refusal input c ∙ ap (option_map (fault_of input)) clean))
       | Some v ↦ λ is. inr (versions_before v.place c, v, first_fault c v is, faulty_input_gives input c v is)
     ] refl

@@ -1,19 +1,19 @@
 -- The first version of lines from an offset on.
 use Rattle.std.proofs.Common.{◌≡◌, ⊎_elim, inl, inr, ℕ, ◌+◌, ◌-◌, ◌≤◌, ◌<◌, ◌^◌, Bool, true, false, List, [], ◌∷◌, ◌++◌, length, take}
-use Rattle.std.proofs.Common.{refl, sym, ap, ◌∙◌, subst, arith, Option, Some, None, Result, Ok, Err, option_map, length-drop}
-use Rattle.std.specs.Prelude.{if◌then◌else◌}
+use Rattle.std.proofs.Common.{refl, sym, ap, ◌∙◌, subst, arith, Option, Some, None, Result, Ok, Err, option_map, length-drop, nat_lt}
 use Rattle.std.proofs.lemmas.Bool.{lt-ltb, ltb-false, ltb-true}
 use Rattle.std.proofs.lemmas.List.{append-nil}
 use Rattle.std.proofs.Math.Seq.{take-append-add}
 use Rattle.std.proofs.lemmas.Option.{none-some}
 use Rattle.osm_model.specs.Data.{VersionData}
 use Rattle.osm_files.specs.declared.fault.Fault.{Fault}
+use Rattle.osm_files.specs.declared.reason.Reason.{Reason}
 use Rattle.osm_files.specs.declared.reason.Reason.TheVariants.{ReadFault}
 use Rattle.osm_files.specs.declared.extent.Extent.{Extent}
 use Rattle.osm_files.specs.Extent.{ExtentCanGive, extent_rest}
 use Rattle.osm_files.specs.ExtentGives.{extent_given}
 use Rattle.osm_files.specs.Fault.{IsOfFile}
-use Rattle.osm_files.specs.Input.{InputRest, CanGive}
+use Rattle.osm_files.specs.Input.{InputRest}
 use Rattle.osm_files.specs.Lines.{bytes_between, IsFirstOf, IsFirstIn, IsFirstBetween}
 use Rattle.osm_files.specs.Opl.{OplFile}
 use Rattle.osm_files.specs.Position.{Position, fault_of, with_rest, with_input, units_from, units_or_failed, closing_verdict, window}
@@ -22,7 +22,10 @@ use Rattle.osm_files.specs.Source.{SourceStep, StepsOn}
 use Rattle.osm_files.specs.Stream.{Verdict, verdict_at, Placed, SourceRest}
 use Rattle.osm_files.specs.Units.{InOpl, units}
 use Rattle.osm_files.specs.Verdict.{length_limit, versions_of}
+use Rattle.osm_files.proofs.FailureLaws.{failed_short, unfailed_long}
 use Rattle.osm_files.proofs.FaultyLaws.{Units, Splits, splits}
+use Rattle.osm_files.specs.declared.end_rule.EndRule.TheVariants as rule
+use Rattle.osm_files.specs.EndRule.{new_test}
 use Rattle.osm_files.proofs.PositionLaws.{from_is}
 use Rattle.osm_files.proofs.UnitLaws.{ReadsAs, opl_reads}
 
@@ -34,6 +37,7 @@ of_lines input offset reader = record {
   held = [];
   rest = reader;
   stage = Some InOpl;
+  end = new_test rule.Any;
   ended = false;
   failed = false;
 }
@@ -43,9 +47,9 @@ abbrev pub version_read : Result (Option Placed) Fault → Result (Option Versio
 version_read (Ok line) = Ok (option_map (λ l. l.version) line)
 version_read (Err fault) = Err fault
 
--- the verdict that closes an input that ends below the limit, or fails there
+-- the verdict that closes an input that ends below the limit, or is refused there
 abbrev closing : ℕ → InputRest → Option Verdict
-closing offset c = if c.broken then Some (verdict_at (offset + length c.bytes) ReadFault) else None
+closing offset c = option_map (verdict_at (offset + length c.bytes)) c.failure
 
 closing_is : (offset : ℕ) (c : InputRest) → offset + length c.bytes < 2 ^ 62 → closing_verdict offset c ≡ closing offset c
 unfolding length_limit
@@ -120,25 +124,31 @@ first_of_front Fails may input offset bytes more close fails (inl h) (Err fault)
     let same : fault_of input close ≡ fault = cc in
     inr (may, ap (λ f. f.reason) (sym same) ∙ fails)) why)
 
+-- the bytes are all of the lines, or a front of them where the input fails
+abbrev IsFrontOf : List ℕ → List ℕ → Option Reason → Type 0
+IsFrontOf lines bytes failure = (rest : List ℕ) × (lines ≡ bytes ++ rest) × (failure ≡ None → rest ≡ [])
+
 -- the result of the first call on an input that gives all of the lines, or a front of them and then an error
-first_of : (Fails : Type 0) (input offset : ℕ) (lines bytes : List ℕ) (broken : Bool) → (broken ≡ true → Fails)
-    → CanGive (Some lines) (record { bytes = bytes; broken = broken }) →
+first_of : (Fails : Type 0) (input offset : ℕ) (lines bytes : List ℕ) (failure : Option Reason)
+    → ((reason : Reason) → failure ≡ Some reason → Fails × (reason ≡ ReadFault))
+    → IsFrontOf lines bytes failure →
     (result : Result (Option Placed) Fault) (later : Option (SourceRest Placed Fault)) →
-    SourceStep (Some (with_input input (units (closing offset (record { bytes = bytes; broken = broken })) InOpl offset bytes))) result
+    SourceStep (Some (with_input input (units (closing offset (record { bytes = bytes; failure = failure })) InOpl offset bytes))) result
     later
     →
     IsFirstIn Fails lines (version_read result)
-first_of Fails input offset lines bytes true failing (rest, is, whole) result later step =
+first_of Fails input offset lines bytes (Some reason) failing (rest, is, whole) result later step =
+    let fails = failing reason refl in
     subst (λ (xs : List ℕ). IsFirstIn Fails xs (version_read result)) (sym is)
-    (first_of_front Fails (failing refl) input offset bytes rest (verdict_at (offset + length bytes) ReadFault) refl
+    (first_of_front Fails fails.0 input offset bytes rest (verdict_at (offset + length bytes) reason) fails.1
     (splits (length bytes) InOpl offset bytes (omega arith)) result later step)
-first_of Fails input offset lines bytes false failing (rest, is, whole) result later step =
+first_of Fails input offset lines bytes None failing (rest, is, whole) result later step =
     subst (λ (xs : List ℕ). IsFirstIn Fails xs (version_read result)) (sym (is ∙ ap (λ r. bytes ++ r) (whole refl) ∙ append-nil bytes))
     (first_in Fails input offset bytes result later step)
 
 -- an extent within a file gives all of its bytes there, or a front of them and then an error
 extent_can : (Fails : Type 0) (all : List ℕ) (start end : ℕ) (c : InputRest) → ExtentCanGive Fails (Some all) start end c →
-    CanGive (Some (bytes_between start end all)) c
+    IsFrontOf (bytes_between start end all) c.bytes c.failure
 extent_can Fails all start end c gives =
     let size = length c.bytes in
     let left = end - start - size in
@@ -148,19 +158,23 @@ extent_can Fails all start end c gives =
       ap (take (end - start)) gives.bytes.1 ∙ ap (λ n. take n (c.bytes ++ gives.bytes.0)) room
           ∙ take-append-add c.bytes gives.bytes.0 left,
       λ whole. (
-          let long : end - start ≤ size = ltb-false size (end - start) (sym gives.broken ∙ whole) in
+          let long : end - start ≤ size = ltb-false size (end - start)
+          (unfailed_long (nat_lt size (end - start)) (sym gives.failure ∙ whole)) in
           let none : left ≡ 0 = omega (arith, long) in
           ap (λ n. take n gives.bytes.0) none),
     )
 
 -- if an extent within a file fails, reads of the file may fail
 extent_fails : (Fails : Type 0) (all : List ℕ) (start end : ℕ) (c : InputRest) → ExtentCanGive Fails (Some all) start end c →
-    end ≤ length all → c.broken ≡ true → Fails
-extent_fails Fails all start end c gives within broken =
-    let short = ltb-true (length c.bytes) (end - start) (sym gives.broken ∙ broken) in
-    ⊎_elim (λ fails. fails)
-    (λ last. absurd (omega (arith, short, ap length last, length-drop start all, within)))
-    (gives.why short)
+    end ≤ length all → (reason : Reason) → c.failure ≡ Some reason → Fails × (reason ≡ ReadFault)
+extent_fails Fails all start end c gives within reason failed =
+    let why = failed_short (nat_lt (length c.bytes) (end - start)) reason (sym gives.failure ∙ failed) in
+    let short = ltb-true (length c.bytes) (end - start) why.0 in (
+      ⊎_elim (λ fails. fails)
+          (λ last. absurd (omega (arith, short, ap length last, length-drop start all, within)))
+          (gives.why short),
+      why.1,
+    )
 
 pub refusal_input : (input : ℕ) (refusal : Option Verdict) (fault : Fault) → option_map (fault_of input) refusal ≡ Some fault →
     fault.input ≡ input
@@ -179,7 +193,7 @@ module _ {R : Type 0} (can : R → InputRest → Type 0) (one : R → InputRest)
       let extent : ExtentCanGive Fails (Some all) start end y.0 = gives y.0 y.1 in
       let size = extent.within in
       let few : start + length y.0.bytes < 2 ^ 62 = omega (arith, short, within, rises, size) in
-      first_of Fails input start (bytes_between start end all) y.0.bytes y.0.broken (extent_fails Fails all start end y.0 extent within)
+      first_of Fails input start (bytes_between start end all) y.0.bytes y.0.failure (extent_fails Fails all start end y.0 extent within)
       (extent_can Fails all start end y.0 extent) result later
       (subst (λ us. SourceStep (Some (with_input input us)) result later) (units_of_lines start y.0 few) y.2)
 

@@ -5,10 +5,11 @@ use Rattle.osm_model.specs.Data.{VersionData}
 use Rattle.osm_model.specs.Sets.{to_list}
 use Rattle.osm_model.specs.VersionSet.{VersionSet}
 use Rattle.osm_files.specs.declared.fault.Fault.{Fault}
-use Rattle.osm_files.specs.declared.reason.Reason.TheVariants.{ReadFault, Unsorted}
+use Rattle.osm_files.specs.declared.reason.Reason.{Reason}
+use Rattle.osm_files.specs.declared.reason.Reason.TheVariants.{Unsorted}
 use Rattle.osm_files.specs.Groups.{to_ascending, is_in_group, is_after_group, versions_then, groups, sorted_source}
 use Rattle.osm_files.specs.Held.{HoldsSorted}
-use Rattle.osm_files.specs.LoadLaws.{broken_after}
+use Rattle.osm_files.specs.Input.{failed_after}
 use Rattle.osm_files.specs.Position.{fault_of}
 use Rattle.osm_files.specs.Stream.{Verdict, verdict_at, Placed, SourceRest, end_refused}
 use Rattle.osm_files.specs.Units.{units, start_of}
@@ -17,7 +18,7 @@ use Rattle.osm_files.proofs.FaultyLaws.{Units, Splits, splits, nothing_closes}
 use Rattle.osm_files.proofs.FileLaws.{files_are_read, short_units}
 use Rattle.osm_files.proofs.HoldLaws.{source_whole, source_gives_held}
 use Rattle.osm_files.proofs.RiseLaws.{source_is}
-use Rattle.osm_files.proofs.LoadFaults.{broken_units}
+use Rattle.osm_files.proofs.LoadFaults.{failed_units}
 
 -- The versions that units give before a fault are the first ones that they and more units give.
 groups_front : (input : ℕ) (fault : Fault) (us more : List Placed) (group : List VersionData) → (rest : List VersionData)
@@ -46,26 +47,26 @@ groups_front input fault (u ∷ us) more group =
           ])
     ]
 
--- a source of bytes after which the input fails, by the units of the bytes
-broken_source : (input : ℕ) (bytes : List ℕ) → length bytes < 2 ^ 62 → sorted_source input (broken_after bytes)
-    ≡ (let us = units (Some (verdict_at (length bytes) ReadFault)) (start_of bytes) 0 bytes in
+-- a source of bytes that are refused at their end, by the units of the bytes
+failed_source : (reason : Reason) (input : ℕ) (bytes : List ℕ) → length bytes < 2 ^ 62 → sorted_source input (failed_after reason bytes)
+    ≡ (let us = units (Some (verdict_at (length bytes) reason)) (start_of bytes) 0 bytes in
     groups input (option_map (fault_of input) us.refusal) us.list [])
-broken_source input bytes short =
-    source_is input (broken_after bytes)
-    ∙ ap (λ (us : Units). groups input (option_map (fault_of input) us.refusal) us.list []) (broken_units bytes short)
+failed_source reason input bytes short =
+    source_is input (failed_after reason bytes)
+    ∙ ap (λ (us : Units). groups input (option_map (fault_of input) us.refusal) us.list []) (failed_units reason bytes short)
 
-no_bytes : (input : ℕ) → (sorted_source input (broken_after [])).list ≡ []
-no_bytes input =
-    ap (λ s. s.list) (broken_source input [] (omega arith)
+no_bytes : (reason : Reason) (input : ℕ) → (sorted_source input (failed_after reason [])).list ≡ []
+no_bytes reason input =
+    ap (λ s. s.list) (failed_source reason input [] (omega arith)
     ∙ ap (λ (us : Units). groups input (option_map (fault_of input) us.refusal) us.list [])
-    (nothing_closes (verdict_at 0 ReadFault)))
+    (nothing_closes (verdict_at 0 reason)))
 
-module _ (input : ℕ) (b : ℕ) (bs more : List ℕ) (held : VersionSet) (h : HoldsSorted ((b ∷ bs) ++ more) held) where
+module _ (reason : Reason) (input : ℕ) (b : ℕ) (bs more : List ℕ) (held : VersionSet) (h : HoldsSorted ((b ∷ bs) ++ more) held) where
   abbrev bytes : List ℕ
   bytes = b ∷ bs
 
   abbrev close : Verdict
-  close = verdict_at (length bytes) ReadFault
+  close = verdict_at (length bytes) reason
 
   short : length bytes < 2 ^ 62
   short = let all = h.short in omega (arith, all, length-append bytes more)
@@ -83,14 +84,14 @@ module _ (input : ℕ) (b : ℕ) (bs more : List ℕ) (held : VersionSet) (h : H
       ∙ ap (λ r. groups input (option_map (fault_of input) r) (units None (start_of bytes) 0 (bytes ++ more)).list []) none)
 
   from_front : Splits (start_of bytes) 0 bytes → (rest : List VersionData)
-      × (to_list held ≡ (sorted_source input (broken_after bytes)).list ++ rest)
+      × (to_list held ≡ (sorted_source input (failed_after reason bytes)).list ++ rest)
   from_front (inl c) =
       let whole = c.longer more None in
       let front = groups_front input (fault_of input close) c.list whole.0.list [] in (
         front.0,
         listed ∙ ap (λ (us : Units). (groups input None us.list []).list) whole.1 ∙ front.1
             ∙ ap (λ (s : SourceRest VersionData Fault). s.list ++ front.0)
-            (sym (broken_source input bytes short
+            (sym (failed_source reason input bytes short
             ∙ ap (λ (us : Units). groups input (option_map (fault_of input) us.refusal) us.list []) (c.closes close))),
       )
   from_front (inr r) =
@@ -98,8 +99,8 @@ module _ (input : ℕ) (b : ℕ) (bs more : List ℕ) (held : VersionSet) (h : H
 
 -- The versions that a source gives of the front of a sorted file, after which its input fails, are the first ones that the
 -- file holds.
-pub front_given : (input : ℕ) (bytes more : List ℕ) (held : VersionSet) → HoldsSorted (bytes ++ more) held →
-    (rest : List VersionData) × (to_list held ≡ (sorted_source input (broken_after bytes)).list ++ rest)
-front_given input [] more held h = (to_list held, ap (λ vs. vs ++ to_list held) (sym (no_bytes input)))
-front_given input (b ∷ bs) more held h =
-    from_front input b bs more held h (splits (length (b ∷ bs)) (start_of (b ∷ bs)) 0 (b ∷ bs) (omega arith))
+pub front_given : (reason : Reason) (input : ℕ) (bytes more : List ℕ) (held : VersionSet) → HoldsSorted (bytes ++ more) held →
+    (rest : List VersionData) × (to_list held ≡ (sorted_source input (failed_after reason bytes)).list ++ rest)
+front_given reason input [] more held h = (to_list held, ap (λ vs. vs ++ to_list held) (sym (no_bytes reason input)))
+front_given reason input (b ∷ bs) more held h =
+    from_front reason input b bs more held h (splits (length (b ∷ bs)) (start_of (b ∷ bs)) 0 (b ∷ bs) (omega arith))

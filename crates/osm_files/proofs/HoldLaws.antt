@@ -16,21 +16,21 @@ use Rattle.osm_model.specs.VersionSet.{VersionSet}
 use Rattle.osm_model.proofs.SetLaws.{to_list-from_list, same_set, contains-from_list, contains-listed}
 use Rattle.osm_model.proofs.VersionLaws.{version_cmp-IsAntisymmetric}
 use Rattle.osm_files.specs.declared.fault.Fault.{Fault}
-use Rattle.osm_files.specs.declared.reason.Reason.TheVariants.{Unsorted, ReadFault}
+use Rattle.osm_files.specs.declared.reason.Reason.{Reason}
+use Rattle.osm_files.specs.declared.reason.Reason.TheVariants.{Unsorted}
 use Rattle.osm_files.specs.Groups.{to_ascending, last_group, groups, sorted_source}
 use Rattle.osm_files.specs.Held.{IsFile, HoldsSorted}
-use Rattle.osm_files.specs.Input.{InputRest, whole_input as all_of}
+use Rattle.osm_files.specs.Input.{InputRest, whole_input as all_of, failed_after}
 use Rattle.osm_files.specs.Position.{units_from, fault_of}
 use Rattle.osm_files.specs.Stream.{Verdict, verdict_at, Placed, SourceRest, end_whole}
 use Rattle.osm_files.specs.Units.{units, start_of}
 use Rattle.osm_files.specs.Verdict.{length_limit, too_long_verdict, file_units, versions_of, is_below, sorted_verdict, verdict_sorted}
-use Rattle.osm_files.specs.LoadLaws.{broken_after}
-use Rattle.osm_files.specs.SourceLaws.{SourceGivesHeld, WholeSourceIsHeld, BrokenSourceEnds, LongSourceEnds}
+use Rattle.osm_files.specs.SourceLaws.{SourceGivesHeld, WholeSourceIsHeld, FailedSourceEnds, LongSourceEnds}
 use Rattle.osm_files.proofs.FileLaws.{files_are_read, sorted_files_are_read, accepted_without_verdict, sorted_without_verdict}
 use Rattle.osm_files.proofs.GroupLaws.{has, has_ascending}
 use Rattle.osm_files.proofs.LoadLaws.{whole_units, unnamed}
 use Rattle.osm_files.proofs.RiseLaws.{groups_rise, source_is}
-use Rattle.osm_files.proofs.LoadFaults.{broken_units}
+use Rattle.osm_files.proofs.LoadFaults.{failed_units}
 
 -- ---- the refusal
 -- a key against that of the version before it, which has the key of its group
@@ -171,26 +171,26 @@ whole_source_is_held input bytes end_whole =
     ∙ ap (λ vs. from_list {R = version_cmp} vs) (sym (source_listed input bytes none)) in
     subst (HoldsSorted bytes) same (sorted_file bytes (versions_of us.list) none refl)
 
--- ---- an error after the bytes
--- A source whose input fails ends with the verdict of its whole units, or ReadFault.
-pub broken_source_ends : BrokenSourceEnds
-broken_source_ends input bytes short =
-    source_refusal input (broken_after bytes) ∙ ap (λ (s : SourceRest Placed Verdict).
-    option_map (fault_of input) (sorted_verdict s.refusal None s.list)) (broken_units bytes short)
+-- ---- bytes that are refused at their end
+-- Their source ends with the verdict of its whole units, or with the refusal of the end.
+pub failed_source_ends : FailedSourceEnds
+failed_source_ends reason input bytes short =
+    source_refusal input (failed_after reason bytes) ∙ ap (λ (s : SourceRest Placed Verdict).
+    option_map (fault_of input) (sorted_verdict s.refusal None s.list)) (failed_units reason bytes short)
 
-long_units : (bytes : List ℕ) (broken : Bool) → 2 ^ 62 ≤ length bytes →
-    units_from None 0 (record { bytes = bytes; broken = broken }) ≡ units (Some too_long_verdict) (start_of bytes) 0
+long_units : (bytes : List ℕ) (failure : Option Reason) → 2 ^ 62 ≤ length bytes →
+    units_from None 0 (record { bytes = bytes; failure = failure }) ≡ units (Some too_long_verdict) (start_of bytes) 0
     (take (2 ^ 62 - 1 - 0) bytes)
 unfolding units_from length_limit
-long_units bytes broken many =
+long_units bytes failure many =
     let above : nat_lt (0 + length bytes) (2 ^ 62) ≡ false = grind (arith, nat_tests) in
-    ap (λ t. units (cond t (cond broken (Some (verdict_at (0 + length bytes) ReadFault)) None) (Some too_long_verdict)) (start_of bytes) 0
+    ap (λ t. units (cond t (option_map (verdict_at (0 + length bytes)) failure) (Some too_long_verdict)) (start_of bytes) 0
     (cond t bytes (take (2 ^ 62 - 1 - 0) bytes))) above
 
 -- A source of 2^62 bytes or more gives the same, whatever follows them.
 pub long_source_ends : LongSourceEnds
-long_source_ends input bytes many =
-    source_is input (broken_after bytes)
+long_source_ends reason input bytes many =
+    source_is input (failed_after reason bytes)
     ∙ ap (λ (s : SourceRest Placed Verdict). groups input (option_map (fault_of input) s.refusal) s.list [])
-    (long_units bytes true many ∙ sym (long_units bytes false many))
+    (long_units bytes (Some reason) many ∙ sym (long_units bytes None many))
     ∙ sym (source_is input (all_of bytes))

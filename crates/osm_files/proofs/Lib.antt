@@ -8,6 +8,8 @@ mod SearchLaws
 mod StepLaws
 mod StayLaws
 mod BufferLaws
+mod EndRuleLaws
+pub mod FailureLaws
 mod FillLaws
 pub mod PositionLaws
 mod ReadingLaws
@@ -22,6 +24,7 @@ mod SourceSteps
 pub mod HoldLaws
 pub mod FaultyLaws
 mod OffsetLaws
+pub mod EndedLaws
 pub mod RefusedLaws
 pub mod FirstFaultLaws
 pub mod SpellSteps
@@ -33,8 +36,6 @@ pub mod RangeLaws
 pub mod LineLists
 pub mod LineStarts
 pub mod FirstLaws
-mod WholeLinesLaws
-mod EndMarkLaws
 mod ByteLaws
 mod ExtentLaws
 mod OpenLaws
@@ -42,6 +43,7 @@ mod RecordedLaws
 pub mod RunBytes
 mod UnsortedLaws
 pub mod RunOrderLaws
+pub mod CutLaws
 pub mod FrontLaws
 pub mod JoinLaws
 mod RestLaws

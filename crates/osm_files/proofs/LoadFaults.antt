@@ -25,7 +25,9 @@ use Rattle.opl_line.specs.declared.reason.OplReason.TheVariants as opl
 use Rattle.o5_codec.specs.declared.reason.O5Reason.{O5Reason}
 use Rattle.o5_codec.specs.declared.reason.O5Reason.TheVariants as o5
 use Rattle.o5_codec.specs.declared.read.segment.Segment.{Segment}
+use Rattle.osm_files.specs.declared.reason.Reason.{Reason}
 use Rattle.osm_files.specs.declared.reason.Reason.TheVariants.{BadHeader, Unsorted, ReadFault}
+use Rattle.osm_files.specs.Input.{failed_after}
 use Rattle.osm_files.specs.Reason.{of_line, of_data_set}
 use Rattle.osm_files.specs.O5.{end_byte, reset_byte, is_lone, kind_of_type}
 use Rattle.osm_files.specs.Stream.{Verdict, verdict_at, Placed, SourceRest, end_whole}
@@ -35,7 +37,7 @@ use Rattle.osm_files.specs.Units.{is_header, set_found, content_found, sized_uni
 use Rattle.osm_files.specs.Units.{final_units, unit_then, units_within, units, start_of}
 use Rattle.osm_files.specs.Verdict.{length_limit, too_long_verdict, file_units, verdict, is_below, sorted_verdict}
 use Rattle.osm_files.specs.Position.{units_from, fault_of}
-use Rattle.osm_files.specs.LoadLaws.{InputsAreFiles, IsFaultyWhole, NoneFaultyWhole, broken_after, BrokenInputsAreRefused}
+use Rattle.osm_files.specs.LoadLaws.{InputsAreFiles, IsFaultyWhole, NoneFaultyWhole, FailedInputsAreRefused}
 use Rattle.osm_files.specs.LoadLaws.{is_verdict_reason, ReasonsOfVerdicts}
 use Rattle.osm_files.proofs.FileLaws.{short_units}
 use Rattle.osm_files.proofs.StepLaws.{unit_sized}
@@ -93,25 +95,26 @@ whole_decides : (bytes : List ℕ) → ((v : Verdict) × IsFaultyWhole bytes v �
 unfolding units
 whole_decides bytes = shown (length bytes) (start_of bytes) 0 bytes
 
--- ---- an error after the bytes
-pub broken_units : (bytes : List ℕ) → length bytes < 2 ^ 62 →
-    units_from None 0 (broken_after bytes) ≡ units (Some (verdict_at (length bytes) ReadFault)) (start_of bytes) 0 bytes
+-- ---- bytes that are refused at their end
+pub failed_units : (reason : Reason) (bytes : List ℕ) → length bytes < 2 ^ 62 →
+    units_from None 0 (failed_after reason bytes) ≡ units (Some (verdict_at (length bytes) reason)) (start_of bytes) 0 bytes
 unfolding length_limit
-broken_units bytes short =
+failed_units reason bytes short =
     let all : 0 + length bytes ≡ length bytes = omega arith in
     let below : nat_lt (0 + length bytes) (2 ^ 62) ≡ true = lt-ltb (0 + length bytes) (2 ^ 62) (omega (arith, short)) in
-    from_is None 0 (broken_after bytes)
-    ∙ (λ i. units (cond (below i) (Some (verdict_at (all i) ReadFault)) (Some too_long_verdict)) (start_of bytes) 0
+    from_is None 0 (failed_after reason bytes)
+    ∙ (λ i. units (cond (below i) (Some (verdict_at (all i) reason)) (Some too_long_verdict)) (start_of bytes) 0
     (cond (below i) bytes (take (2 ^ 62 - 1 - 0) bytes)))
 
-long_units : (bytes : List ℕ) → nat_lt (length bytes) length_limit ≡ false → units_from None 0 (broken_after bytes) ≡ file_units bytes
+long_units : (reason : Reason) (bytes : List ℕ) → nat_lt (length bytes) length_limit ≡ false
+    → units_from None 0 (failed_after reason bytes) ≡ file_units bytes
 unfolding file_units
-long_units bytes long =
+long_units reason bytes long =
     let all : 0 + length bytes ≡ length bytes = omega arith in
     let room : length_limit - 1 - 0 ≡ length_limit - 1 = omega arith in
     let above : nat_lt (0 + length bytes) length_limit ≡ false = ap (λ n. nat_lt n length_limit) all ∙ long in
-    from_is None 0 (broken_after bytes)
-    ∙ (λ i. units (cond (above i) (Some (verdict_at (0 + length bytes) ReadFault)) (Some too_long_verdict)) (start_of bytes) 0
+    from_is None 0 (failed_after reason bytes)
+    ∙ (λ i. units (cond (above i) (Some (verdict_at (0 + length bytes) reason)) (Some too_long_verdict)) (start_of bytes) 0
     (cond (above i) bytes (take (room i) bytes)))
     ∙ ap (λ t. cond t (units None (start_of bytes) 0 bytes)
     (units (Some too_long_verdict) (start_of bytes) 0 (take (length_limit - 1) bytes)))
@@ -120,32 +123,34 @@ long_units bytes long =
 abbrev refusal_of : SourceRest Placed Verdict → Option Verdict
 refusal_of s = s.refusal
 
-short_refused : (bytes : List ℕ) → length bytes < 2 ^ 62
+short_refused : (reason : Reason) (bytes : List ℕ) → length bytes < 2 ^ 62
     → ((v : Verdict) × length bytes < 2 ^ 62 × IsFaultyWhole bytes v × (verdict bytes ≡ Some v)
-    × ((units_from None 0 (broken_after bytes)).refusal ≡ Some v))
+    × ((units_from None 0 (failed_after reason bytes)).refusal ≡ Some v))
     ⊎ (length bytes < 2 ^ 62 × NoneFaultyWhole bytes
-    × ((units_from None 0 (broken_after bytes)).refusal ≡ Some (verdict_at (length bytes) ReadFault)))
-short_refused bytes short =
-    let close : Verdict = verdict_at (length bytes) ReadFault in
-    let same : (units_from None 0 (broken_after bytes)).refusal ≡ (units (Some close) (start_of bytes) 0 bytes).refusal =
-    ap refusal_of (broken_units bytes short) in
+    × ((units_from None 0 (failed_after reason bytes)).refusal ≡ Some (verdict_at (length bytes) reason)))
+short_refused reason bytes short =
+    let close : Verdict = verdict_at (length bytes) reason in
+    let same : (units_from None 0 (failed_after reason bytes)).refusal ≡ (units (Some close) (start_of bytes) 0 bytes).refusal =
+    ap refusal_of (failed_units reason bytes short) in
     ⊎_elim (λ h. inl (h.0, short, h.1, ap refusal_of (short_units bytes short) ∙ h.2, same ∙ h.1 close))
     (λ h. inr (short, h, same ∙ h close)) (whole_decides bytes)
 
--- An input that fails has the verdict of its whole units or of its length as its refusal, or else ReadFault.
-pub broken_inputs : BrokenInputsAreRefused
-broken_inputs bytes =
+-- An input that is refused at its end has the verdict of its whole units or of its length as its refusal, or else that of
+-- its end.
+pub failed_inputs : FailedInputsAreRefused
+failed_inputs reason bytes =
     elim (nat_lt (length bytes) length_limit) as (λ t. nat_lt (length bytes) length_limit ≡ t →
-    (2 ^ 62 ≤ length bytes × ((units_from None 0 (broken_after bytes)).refusal ≡ verdict bytes))
+    (2 ^ 62 ≤ length bytes × ((units_from None 0 (failed_after reason bytes)).refusal ≡ verdict bytes))
     ⊎ ((v : Verdict) × length bytes < 2 ^ 62 × IsFaultyWhole bytes v × (verdict bytes ≡ Some v)
-    × ((units_from None 0 (broken_after bytes)).refusal ≡ Some v))
+    × ((units_from None 0 (failed_after reason bytes)).refusal ≡ Some v))
     ⊎ (length bytes < 2 ^ 62 × NoneFaultyWhole bytes
-    × ((units_from None 0 (broken_after bytes)).refusal ≡ Some (verdict_at (length bytes) ReadFault)))) [
-      | true ↦ λ is. inr (short_refused bytes (let below = ltb-true (length bytes) length_limit is in omega (arith, limit_is, below)))
+    × ((units_from None 0 (failed_after reason bytes)).refusal ≡ Some (verdict_at (length bytes) reason)))) [
+      | true ↦ λ is. inr (short_refused reason bytes
+          (let below = ltb-true (length bytes) length_limit is in omega (arith, limit_is, below)))
       | false ↦ λ is. inl (
         let above = ltb-false (length bytes) length_limit is in
             omega (arith, limit_is, above),
-        ap refusal_of (long_units bytes is),
+        ap refusal_of (long_units reason bytes is),
       )
     ] refl
 

@@ -16,7 +16,6 @@ use Rattle.osm_model.specs.Sets.{from_list}
 use Rattle.osm_files.specs.declared.fault.Fault.{Fault}
 use Rattle.osm_files.specs.declared.format.Format.{Format}
 use Rattle.osm_files.specs.declared.load.Loaded.{Loaded}
-use Rattle.osm_files.specs.declared.reason.Reason.TheVariants.{ReadFault}
 use Rattle.osm_files.specs.Fault.{memory_fault}
 use Rattle.osm_files.specs.Input.{InputRest, whole_input as all_of}
 use Rattle.osm_files.specs.Stream.{Verdict, verdict_at, Placed, SourceRest}
@@ -25,10 +24,13 @@ use Rattle.osm_files.specs.O5.{reset_byte}
 use Rattle.osm_files.specs.Units.{InOpl, unit_at, units, start_of}
 use Rattle.osm_files.specs.Verdict.{length_limit, too_long_verdict, file_units, versions_of, verdict, is_below, is_below_last}
 use Rattle.osm_files.specs.Held.{IsFile, Holds, HoldsSorted}
-use Rattle.osm_files.specs.Position.{KnownPosition, at_start, rest_of_bytes, units_from, with_input, rest_of_units, units_or_failed}
+use Rattle.osm_files.specs.Position.{KnownPosition, at_start_with, rest_of_bytes, units_from, with_input, rest_of_units, units_or_failed}
 use Rattle.osm_files.specs.Position.{ReadsOn, KeepsRest, state_at, state_or_start}
 use Rattle.osm_files.specs.Position.{fault_of, StopsFilling}
-use Rattle.osm_files.specs.Load.{format_of, determines_format, IsRead, Loads, StopsLoading}
+use Rattle.osm_files.specs.Load.{format_of, determines_format, IsRead, Loads, IsAcceptedWhole, StopsLoading}
+use Rattle.osm_files.specs.declared.end_rule.EndTest.{EndTest}
+use Rattle.osm_files.specs.EndRule.{by_test}
+use Rattle.osm_model.specs.VersionSet.{VersionSet}
 use Rattle.osm_files.proofs.FileLaws.{one_list, accepted_without_verdict, units_closed}
 use Rattle.osm_files.proofs.PositionLaws.{from_is, none_in_nothing, reads_go_on, stopped}
 use Rattle.osm_files.proofs.ReadingLaws.{keeps_still, refusal_step, come_still}
@@ -103,6 +105,11 @@ loads_begin p q on fine =
     subst (λ (o : Option (SourceRest Placed Fault)). LoadsOn o [] (units_or_failed q)) (sym (come_still p fine))
     (IfSome_then (rest_of_units p) on.keeps (λ s e. (s, come_still q (on.failed ∙ fine) ∙ e, refl, refl)))
 
+-- before any unit was read, for a reading that is the same
+pub loads_itself : (all : Option (SourceRest Placed Fault)) → LoadsOn all [] all
+loads_itself None = tt
+loads_itself (Some s) = (s, refl, refl, refl)
+
 -- before any unit was read
 pub stops_at_once : (now after : Option (SourceRest Placed Fault)) (fault : Fault) → SourceStep {A = Placed} now (Err fault) after →
     (fault ≡ memory_fault) ⊎ IfSome now (λ s. s.refusal ≡ Some fault)
@@ -175,22 +182,21 @@ whole_units bytes =
       | false ↦ refl
     ])
 
--- an input that isn't refused is unbroken
-unbroken : (c : InputRest) → (units_from None 0 c).refusal ≡ None → c.broken ≡ false
+-- an input that isn't refused ends well
+unbroken : (c : InputRest) → (units_from None 0 c).refusal ≡ None → c.failure ≡ None
 unbroken c none =
     let below : Bool = nat_lt (0 + length c.bytes) length_limit in
-    let at_all : Verdict = verdict_at (0 + length c.bytes) ReadFault in
     let bytes : List ℕ = cond below c.bytes (take (length_limit - 1 - 0) c.bytes) in
-    let closes : (b : Bool) → (units (cond b (Some at_all) (Some too_long_verdict)) (start_of c.bytes) 0 bytes).refusal ≡ None → ⊥ =
-    λ b. elim b as (λ t. (units (cond t (Some at_all) (Some too_long_verdict)) (start_of c.bytes) 0 bytes).refusal ≡ None → ⊥) [
+    let closes : (at_all : Verdict) (b : Bool) → (units (cond b (Some at_all) (Some too_long_verdict)) (start_of c.bytes) 0 bytes).refusal
+    ≡ None → ⊥ =
+    λ at_all b. elim b as (λ t. (units (cond t (Some at_all) (Some too_long_verdict)) (start_of c.bytes) 0 bytes).refusal ≡ None → ⊥) [
       | true ↦ units_closed at_all (start_of c.bytes) 0 bytes
       | false ↦ units_closed too_long_verdict (start_of c.bytes) 0 bytes
     ] in
-    elim c.broken as (λ t. (units (cond below (cond t (Some at_all) None) (Some too_long_verdict)) (start_of c.bytes) 0 bytes).refusal
-    ≡ None →
-    t ≡ false) [
-      | true ↦ λ e. absurd (closes below e)
-      | false ↦ λ e. refl
+    elim c.failure as (λ f. (units (cond below (option_map (verdict_at (0 + length c.bytes)) f) (Some too_long_verdict))
+    (start_of c.bytes) 0 bytes).refusal ≡ None → f ≡ None) [
+      | Some reason ↦ λ e. absurd (closes (verdict_at (0 + length c.bytes) reason) below e)
+      | None ↦ λ e. refl
     ] (ap (λ s. s.refusal) (sym (from_is None 0 c)) ∙ none)
 
 pub unnamed : (input : ℕ) (r : Option Verdict) → option_map (fault_of input) r ≡ None → r ≡ None
@@ -200,11 +206,11 @@ unnamed input (Some v) e = absurd (none-some (fault_of input v) (sym e))
 -- the units of an input that are its versions, with no refusal
 module _ (input : ℕ) (c : InputRest) (versions : List VersionData) (none : (with_input input (units_from None 0 c)).refusal ≡ None)
     (all : versions_of (with_input input (units_from None 0 c)).list ≡ versions) where
-  ends : c.broken ≡ false
+  ends : c.failure ≡ None
   ends = unbroken c (unnamed input (units_from None 0 c).refusal none)
 
   are_file : units_from None 0 c ≡ file_units c.bytes
-  are_file = (λ i. units_from None 0 (record { bytes = c.bytes; broken = ends i })) ∙ whole_units c.bytes
+  are_file = (λ i. units_from None 0 (record { bytes = c.bytes; failure = ends i })) ∙ whole_units c.bytes
 
   no_verdict : verdict c.bytes ≡ None
   no_verdict = ap (λ (s : SourceRest Placed Verdict). s.refusal) (sym are_file) ∙ unnamed input (units_from None 0 c).refusal none
@@ -216,7 +222,7 @@ module _ (input : ℕ) (c : InputRest) (versions : List VersionData) (none : (wi
   is_file = subst (IsFile c.bytes) file_versions (accepted_without_verdict c.bytes no_verdict).1
 
   -- An input that was read to its end gave a file.
-  pub gives_file : (c.broken ≡ false) × Holds c.bytes (from_list {R = version_cmp} versions)
+  pub gives_file : (c.failure ≡ None) × Holds c.bytes (from_list {R = version_cmp} versions)
   gives_file = (
     ends,
     record {
@@ -250,14 +256,28 @@ module _ (input : ℕ) (c : InputRest) (versions : List VersionData) (none : (wi
     sorted = (λ t. loads_sorted (is.0 t), λ h. is.1 (sorted_loads h));
   }
 
-module _ (input : ℕ) where
+module _ (end : EndTest) (input : ℕ) where
   -- An input that was read to its end has these versions, this format and this order.
   pub is_read : (c : InputRest) (format : Format) (versions : List VersionData) (sorted : Bool) →
-      IfSome (rest_of_bytes (at_start input (Some c))) (λ c. format ≡ format_of c.bytes) → IsTrue sorted ↔ IsSorted key_cmp versions
-      → IfSome (units_or_failed (at_start input (Some c))) (λ s. (s.refusal ≡ None) × (versions_of s.list ≡ versions)) →
-      IsRead input c versions format sorted
+      IfSome (rest_of_bytes (at_start_with end input (Some c))) (λ c. format ≡ format_of c.bytes)
+      → IsTrue sorted ↔ IsSorted key_cmp versions
+      → IfSome (units_or_failed (at_start_with end input (Some c))) (λ s. (s.refusal ≡ None) × (versions_of s.list ≡ versions)) →
+      IsRead input (by_test end c) versions format sorted
   is_read c format versions sorted shown is all = record { unrefused = all.0; all = all.1; shown = shown; rises = is }
 
+  -- An input that can't be read isn't loaded.
+  pub stops : (c : InputRest) (fault : Fault) → (fault ≡ memory_fault)
+      ⊎ IfSome (units_or_failed (at_start_with end input (Some c))) (λ s. s.refusal ≡ Some fault)
+      → StopsLoading input (by_test end c) fault
+  stops c fault h = h
+
+  -- No unit of an input that was read to its end is refused.
+  pub accepted : (c : InputRest) (versions : List VersionData)
+      → IfSome (units_or_failed (at_start_with end input (Some c))) (λ s. (s.refusal ≡ None) × (versions_of s.list ≡ versions))
+      → IsAcceptedWhole input (by_test end c)
+  accepted c versions all = all.0
+
+module _ (input : ℕ) where
   -- An input that was read is loaded as what its file holds.
   pub loads : (c : InputRest) (format : Format) (versions : List VersionData) (sorted : Bool) (loaded : Loaded) →
       IsRead input c versions format sorted
@@ -265,7 +285,8 @@ module _ (input : ℕ) where
   loads c format versions sorted loaded read gathered =
       subst (Loads c) (sym gathered) (loads_all input c versions read.unrefused read.all format sorted read.shown read.rises)
 
-  -- An input that can't be read isn't loaded.
-  pub stops : (c : InputRest) (fault : Fault) → (fault ≡ memory_fault)
-      ⊎ IfSome (units_or_failed (at_start input (Some c))) (λ s. s.refusal ≡ Some fault) → StopsLoading input c fault
-  stops c fault h = h
+  -- An input no unit of which is refused gave a file, and ended well.
+  pub accepted_given : (c : InputRest) → IsAcceptedWhole input c → (c.failure ≡ None) × ((held : VersionSet) × Holds c.bytes held)
+  accepted_given c whole =
+      let file = gives_file input c (versions_of (with_input input (units_from None 0 c)).list) whole refl in
+      (file.0, (_, file.1))

@@ -1,8 +1,7 @@
 -- The offsets of units: each unit begins after the one before it, and a refusal comes after them all.
 use Rattle.std.proofs.Common.{◌≡◌, ℕ, zero, suc, ◌+◌, ◌-◌, ◌≤◌, true, false, cond, List, [], ◌∷◌, length, take, drop, refl, sym, subst}
-use Rattle.std.proofs.Common.{arith, Option, Some, None, IfSome, Ok, Err, length-drop, length-take, nat_lt}
+use Rattle.std.proofs.Common.{arith, Option, Some, None, option_map, IfSome, Ok, Err, length-drop, length-take, nat_lt}
 use Rattle.std.proofs.lemmas.Option.{IfSome_then}
-use Rattle.osm_files.specs.declared.reason.Reason.TheVariants.{ReadFault}
 use Rattle.osm_files.specs.Input.{InputRest}
 use Rattle.osm_files.specs.Position.{closing_verdict, state_or_start, units_from, window}
 use Rattle.osm_files.specs.Stream.{Placed, SourceRest, Verdict, verdict_at}
@@ -76,16 +75,16 @@ module _ (close : Option Verdict) where
   unfolding units
   units_follow stage offset bytes h = within_follow (length bytes) stage offset bytes h
 
--- an error comes after the last byte, and the limit after all bytes that count
+-- a refusal of the end comes after the last byte, and the limit after all bytes that count
 window_closes : (c : InputRest) → ClosesFrom (0 + length (window 0 c)) (closing_verdict 0 c)
 window_closes c =
-    let error : Verdict = verdict_at (0 + length c.bytes) ReadFault in
     let front : List ℕ = take (length_limit - 1 - 0) c.bytes in
     elim (nat_lt (0 + length c.bytes) length_limit) as (λ t.
-    ClosesFrom (0 + length (cond t c.bytes front)) (cond t (cond c.broken (Some error) None) (Some too_long_verdict))) [
-      | true ↦ elim c.broken as (λ b. ClosesFrom (0 + length c.bytes) (cond b (Some error) None)) [
-        | true ↦ omega arith
-        | false ↦ tt
+    ClosesFrom (0 + length (cond t c.bytes front))
+    (cond t (option_map (verdict_at (0 + length c.bytes)) c.failure) (Some too_long_verdict))) [
+      | true ↦ elim c.failure as (λ f. ClosesFrom (0 + length c.bytes) (option_map (verdict_at (0 + length c.bytes)) f)) [
+        | Some reason ↦ omega arith
+        | None ↦ tt
       ]
       | false ↦ omega (arith, length-take (length_limit - 1 - 0) c.bytes)
     ]

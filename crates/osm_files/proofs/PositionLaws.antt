@@ -10,9 +10,11 @@ use Rattle.std.proofs.lemmas.Option.{IfSome_then}
 use Rattle.osm_model.specs.Data.{VersionData}
 use Rattle.osm_files.specs.declared.fault.Fault.{Fault}
 use Rattle.osm_files.specs.declared.reason.Reason.{Reason}
-use Rattle.osm_files.specs.declared.reason.Reason.TheVariants.{ReadFault}
+use Rattle.osm_files.specs.declared.reason.Reason.TheVariants.{ReadFault, NoEnd}
+use Rattle.osm_files.specs.declared.end_rule.EndTest.{EndTest}
+use Rattle.osm_files.specs.EndRule.{lacks_end, failure_if, cut_if, by_test}
 use Rattle.osm_files.specs.Fault.{memory_fault}
-use Rattle.osm_files.specs.Input.{InputRest, whole_input as all_of, with_front}
+use Rattle.osm_files.specs.Input.{InputRest, whole_input as all_of, failed_after, with_front}
 use Rattle.osm_files.specs.Stream.{verdict_at, Placed, new_placed, SourceRest, end_whole, end_refused, front}
 use Rattle.osm_files.specs.Units.{FileStateData, FileUnit, unit_at, last_at, found_then, units}
 use Rattle.osm_files.specs.Verdict.{length_limit, too_long_verdict}
@@ -60,33 +62,43 @@ reads_go_on p q on = record {
 -- the bytes after those held
 pub record RestAfter (p : KnownPosition) (c : InputRest) : Type 0 where
   pub more : List ℕ
-  pub broken : Bool
-  pub here : c ≡ record { bytes = p.held ++ more; broken = broken }
-  pub there : (h : List ℕ) → rest_of_bytes (record p { held = h }) ≡ Some (record { bytes = h ++ more; broken = broken })
+  pub failure : Option Reason
+  pub here : c ≡ record { bytes = p.held ++ more; failure = failure }
+  pub there : (h : List ℕ) → rest_of_bytes (record p { held = h }) ≡ Some (record { bytes = h ++ more; failure = failure })
+
+-- the bytes of an input that ended, and the refusal of its end
+abbrev ended_with : Bool → List ℕ → InputRest
+ended_with cut bytes = cut_if cut (all_of bytes)
+
+-- the bytes of an input that goes on
+abbrev open_with : EndTest → List ℕ → InputRest → InputRest
+open_with e held c = with_front held (by_test e c)
 
 rest_by : (p : KnownPosition) (ended : Bool) (rest : Option InputRest) (c : InputRest) → p.ended ≡ ended → p.rest ≡ rest →
     rest_of_bytes p ≡ Some c →
     RestAfter p c
 rest_by p true rest c e f at =
-    let ends : (h : List ℕ) → rest_of_bytes (record p { held = h }) ≡ Some (all_of h) =
-    λ h. ap (λ b. cond b (Some (all_of h)) (option_map (with_front h) p.rest)) e in
-    let same : c ≡ all_of p.held = (let g : Some c ≡ Some (all_of p.held) = sym at ∙ ends p.held in cc) in
+    let cut : Bool = lacks_end p.end in
+    let ends : (h : List ℕ) → rest_of_bytes (record p { held = h }) ≡ Some (ended_with cut h) =
+    λ h. ap (λ b. cond b (Some (ended_with cut h)) (option_map (open_with p.end h) p.rest)) e in
+    let same : c ≡ ended_with cut p.held = (let g : Some c ≡ Some (ended_with cut p.held) = sym at ∙ ends p.held in cc) in
     record {
       more = [];
-      broken = false;
-      here = same ∙ ap (λ (x : List ℕ). all_of x) (sym (append-nil p.held));
-      there = λ h. ends h ∙ ap (λ (x : List ℕ). Some (all_of x)) (sym (append-nil h));
+      failure = failure_if cut None;
+      here = same ∙ ap (λ (x : List ℕ). ended_with cut x) (sym (append-nil p.held));
+      there = λ h. ends h ∙ ap (λ (x : List ℕ). Some (ended_with cut x)) (sym (append-nil h));
     }
 rest_by p false None c e f at =
-    absurd (let g : None ≡ Some c = sym (ap (λ b. cond b (Some (all_of p.held)) (option_map (with_front p.held) p.rest)) e
-    ∙ ap (option_map (with_front p.held)) f) ∙ at in cc)
+    absurd (let g : None ≡ Some c = sym (ap (λ b. cond b (Some (ended_with (lacks_end p.end) p.held))
+    (option_map (open_with p.end p.held) p.rest)) e ∙ ap (option_map (open_with p.end p.held)) f) ∙ at in cc)
 rest_by p false (Some d) c e f at =
-    let goes : (h : List ℕ) → rest_of_bytes (record p { held = h }) ≡ Some (with_front h d) =
-    λ h. ap (λ b. cond b (Some (all_of h)) (option_map (with_front h) p.rest)) e ∙ ap (option_map (with_front h)) f in
+    let goes : (h : List ℕ) → rest_of_bytes (record p { held = h }) ≡ Some (open_with p.end h d) =
+    λ h. ap (λ b. cond b (Some (ended_with (lacks_end p.end) h)) (option_map (open_with p.end h) p.rest)) e
+    ∙ ap (option_map (open_with p.end h)) f in
     record {
       more = d.bytes;
-      broken = d.broken;
-      here = (let g : Some c ≡ Some (with_front p.held d) = sym at ∙ goes p.held in cc);
+      failure = (by_test p.end d).failure;
+      here = (let g : Some c ≡ Some (open_with p.end p.held d) = sym at ∙ goes p.held in cc);
       there = goes;
     }
 
@@ -105,9 +117,9 @@ same_state None (b ∷ held) more some = refl
 abbrev pub Counts : ℕ → List ℕ → InputRest → Type 0
 Counts offset held c = (more : List ℕ) × (window offset c ≡ held ++ more)
 
-counted : (offset : ℕ) (held rest : List ℕ) (broken : Bool) → offset + length held < 2 ^ 62 →
-    Counts offset held (record { bytes = held ++ rest; broken = broken })
-counted offset held rest broken bound =
+counted : (offset : ℕ) (held rest : List ℕ) (failure : Option Reason) → offset + length held < 2 ^ 62 →
+    Counts offset held (record { bytes = held ++ rest; failure = failure })
+counted offset held rest failure bound =
     elim (nat_lt (offset + length (held ++ rest)) length_limit) as
     (λ t. nat_lt (offset + length (held ++ rest)) length_limit ≡ t →
     (more : List ℕ) × (cond t (held ++ rest) (take (length_limit - 1 - offset) (held ++ rest)) ≡ held ++ more)) [
@@ -122,18 +134,19 @@ counted offset held rest broken bound =
     ] refl
 
 -- at a later offset, the same bytes count, and the file closes in the same way
-module _ (offset n : ℕ) (held rest : List ℕ) (broken : Bool) (fits : n ≤ length held) (bound : offset + length held < 2 ^ 62) where
+module _ (offset n : ℕ) (held rest : List ℕ) (failure : Option Reason) (fits : n ≤ length held)
+    (bound : offset + length held < 2 ^ 62) where
   abbrev here : InputRest
-  here = record { bytes = held ++ rest; broken = broken }
+  here = record { bytes = held ++ rest; failure = failure }
 
   abbrev there : InputRest
-  there = record { bytes = drop n held ++ rest; broken = broken }
+  there = record { bytes = drop n held ++ rest; failure = failure }
 
   same_length : (offset + n) + length (drop n held ++ rest) ≡ offset + length (held ++ rest)
   same_length = omega (arith, length-append held rest, length-append (drop n held) rest, length-drop n held, fits)
 
   same_closing : closing_verdict (offset + n) there ≡ closing_verdict offset here
-  same_closing = ap (λ m. cond (nat_lt m length_limit) (cond broken (Some (verdict_at m ReadFault)) None) (Some too_long_verdict))
+  same_closing = ap (λ m. cond (nat_lt m length_limit) (option_map (verdict_at m) failure) (Some too_long_verdict))
       same_length
 
   drop_in : drop n (held ++ rest) ≡ drop n held ++ rest
@@ -168,15 +181,16 @@ module _ (m : KnownPosition) (u : FileUnit) (is_found : unit_at (state_at m) m.h
   sized : IsSized u m.held
   sized = unit_sized (state_at m) m.held u is_found
 
-  abbrev after_it : List ℕ → Bool → InputRest
-  after_it rest broken = record { bytes = drop u.size m.held ++ rest; broken = broken }
+  abbrev after_it : List ℕ → Option Reason → InputRest
+  after_it rest failure = record { bytes = drop u.size m.held ++ rest; failure = failure }
 
   -- the unit, and those after it
-  unit_first : (rest : List ℕ) (broken : Bool) → units_from m.stage m.offset (record { bytes = m.held ++ rest; broken = broken })
-      ≡ found_then m.offset u.found (λ next. units_from (Some next) (m.offset + u.size) (after_it rest broken))
-  unit_first rest broken =
-      let c : InputRest = record { bytes = m.held ++ rest; broken = broken } in
-      let counts = counted m.offset m.held rest broken bound in
+  unit_first : (rest : List ℕ) (failure : Option Reason)
+      → units_from m.stage m.offset (record { bytes = m.held ++ rest; failure = failure })
+      ≡ found_then m.offset u.found (λ next. units_from (Some next) (m.offset + u.size) (after_it rest failure))
+  unit_first rest failure =
+      let c : InputRest = record { bytes = m.held ++ rest; failure = failure } in
+      let counts = counted m.offset m.held rest failure bound in
       let spelled : unit_at (state_at m) (window m.offset c) ≡ Some u = ap (unit_at (state_at m)) counts.1
       ∙ unit_stays (state_at m) m.held counts.0 u is_found in
       from_is m.stage m.offset c
@@ -184,16 +198,17 @@ module _ (m : KnownPosition) (u : FileUnit) (is_found : unit_at (state_at m) m.h
       (same_state m.stage m.held rest (omega (arith, sized.some, sized.within)))
       ∙ units_step (closing_verdict m.offset c) (state_at m) m.offset (window m.offset c) u spelled
       ∙ found_same m.offset u.found _ _ (λ next. (λ i.
-      units (sym (same_closing m.offset u.size m.held rest broken sized.within bound) i) next (m.offset + u.size)
-      (same_window m.offset u.size m.held rest broken sized.within bound i))
-      ∙ sym (from_is (Some next) (m.offset + u.size) (after_it rest broken)))
+      units (sym (same_closing m.offset u.size m.held rest failure sized.within bound) i) next (m.offset + u.size)
+      (same_window m.offset u.size m.held rest failure sized.within bound i))
+      ∙ sym (from_is (Some next) (m.offset + u.size) (after_it rest failure)))
 
   unit_known : (c : InputRest) → rest_of_bytes m ≡ Some c → (d : InputRest)
       × (units_from m.stage m.offset c ≡ found_then m.offset u.found (λ next. units_from (Some next) (m.offset + u.size) d))
       × ((next : FileStateData) → rest_of_bytes (gone_over m u.size next) ≡ Some d)
   unit_known c e =
       let b = rest_after m c e in
-      (after_it b.more b.broken, ap (units_from m.stage m.offset) b.here ∙ unit_first b.more b.broken, λ next. b.there (drop u.size m.held))
+      let first = ap (units_from m.stage m.offset) b.here ∙ unit_first b.more b.failure in
+      (after_it b.more b.failure, first, λ next. b.there (drop u.size m.held))
 
   -- A unit without a version leaves the units ahead as they are.
   pub gone_passed : (next : FileStateData) → u.found ≡ Ok (None, next) → Keeps (rest_of_units m) (rest_of_units (gone_over m u.size next))
@@ -240,8 +255,9 @@ not_below : (m n : ℕ) → n ≤ m → nat_lt m n ≡ false
 not_below m n h = grind (arith, nat_tests)
 
 -- At the end of input the bytes ahead are those held.
-pub ended_ahead : (m : KnownPosition) → m.ended ≡ true → rest_of_bytes m ≡ Some (all_of m.held)
-ended_ahead m ended = ap (λ b. cond b (Some (all_of m.held)) (option_map (with_front m.held) m.rest)) ended
+pub ended_ahead : (m : KnownPosition) → m.ended ≡ true → rest_of_bytes m ≡ Some (cut_if (lacks_end m.end) (all_of m.held))
+ended_ahead m ended =
+    ap (λ b. cond b (Some (ended_with (lacks_end m.end) m.held)) (option_map (open_with m.end m.held) m.rest)) ended
 
 -- a stage that more bytes than those held determine
 nothing_by : (stage : Option FileStateData) (held bytes : List ℕ) (b : ℕ) (more : List ℕ) →
@@ -253,16 +269,20 @@ nothing_by stage (a ∷ held) bytes b more none e = ap (λ x. unit_at (state_or_
 
 -- if no unit is whole in the bytes held, and no more can be read
 module _ (m : KnownPosition) (nothing : unit_at (state_at m) m.held ≡ None) (bound : m.offset + length m.held < 2 ^ 62) where
+  -- bytes that are refused at their end
+  failed_there : (reason : Reason) → units_from m.stage m.offset (failed_after reason m.held)
+      ≡ end_refused (verdict_at (m.offset + length m.held) reason)
+  failed_there reason =
+      let below : nat_lt (m.offset + length m.held) length_limit ≡ true = lt-ltb _ _ (rw limit_is bound) in
+      from_is m.stage m.offset (failed_after reason m.held)
+      ∙ ap (λ t. units (cond t (Some (verdict_at (m.offset + length m.held) reason)) (Some too_long_verdict)) (state_at m) m.offset
+      (cond t m.held (take (length_limit - 1 - m.offset) m.held))) below
+      ∙ units_stop (Some (verdict_at (m.offset + length m.held) reason)) (state_at m) m.offset m.held nothing
+
   pub halted : (c : InputRest) (fault : Fault) → Halts m c fault → with_input m.input (units_from m.stage m.offset c) ≡ end_refused fault
   halted c fault (inl h) =
-      let below : nat_lt (m.offset + length m.held) length_limit ≡ true = lt-ltb _ _ (rw limit_is bound) in
-      let same : units_from m.stage m.offset (record { bytes = m.held; broken = true })
-      ≡ end_refused (verdict_at (m.offset + length m.held) ReadFault) =
-      from_is m.stage m.offset (record { bytes = m.held; broken = true })
-      ∙ ap (λ t. units (cond t (Some (verdict_at (m.offset + length m.held) ReadFault)) (Some too_long_verdict)) (state_at m) m.offset
-      (cond t m.held (take (length_limit - 1 - m.offset) m.held))) below
-      ∙ units_stop (Some (verdict_at (m.offset + length m.held) ReadFault)) (state_at m) m.offset m.held nothing in
-      ap (λ x. with_input m.input (units_from m.stage m.offset x)) h.0 ∙ ap (with_input m.input) same ∙ ap end_refused (sym h.1)
+      ap (λ x. with_input m.input (units_from m.stage m.offset x)) h.0 ∙ ap (with_input m.input) (failed_there ReadFault)
+      ∙ ap end_refused (sym h.1)
   halted c fault (inr h) =
       let b : ℕ = h.1.0 in
       let more : List ℕ = h.1.1 in
@@ -274,7 +294,7 @@ module _ (m : KnownPosition) (nothing : unit_at (state_at m) m.held ≡ None) (b
       ∙ append-nil m.held in
       let same : units_from m.stage m.offset c ≡ end_refused too_long_verdict =
       from_is m.stage m.offset c
-      ∙ ap (λ t. units (cond t (cond c.broken (Some (verdict_at (m.offset + length c.bytes) ReadFault)) None) (Some too_long_verdict))
+      ∙ ap (λ t. units (cond t (option_map (verdict_at (m.offset + length c.bytes)) c.failure) (Some too_long_verdict))
       (state_or_start m.stage c.bytes) m.offset (cond t c.bytes (take (length_limit - 1 - m.offset) c.bytes))) above
       ∙ ap (units (Some too_long_verdict) (state_or_start m.stage c.bytes) m.offset) front
       ∙ units_stop (Some too_long_verdict) (state_or_start m.stage c.bytes) m.offset m.held
@@ -287,15 +307,24 @@ module _ (m : KnownPosition) (nothing : unit_at (state_at m) m.held ≡ None) (b
   stopped fault (inr h) = inr (mapped (rest_of_bytes m) _ (λ s. s ≡ end_refused fault)
       (IfSome_then (rest_of_bytes m) h (λ c k. halted c fault k)))
 
-  -- at the end of the input
-  pub at_the_end : m.ended ≡ true → rest_of_units m ≡ Some
+  -- at the end of the input, if it isn't missing
+  pub at_the_end : lacks_end m.end ≡ false → m.ended ≡ true → rest_of_units m ≡ Some
       (with_input m.input (found_then m.offset (last_at (state_at m) m.held) (λ next. end_whole)))
-  at_the_end ended =
+  at_the_end uncut ended =
       let below : nat_lt (m.offset + length m.held) length_limit ≡ true = lt-ltb _ _ (rw limit_is bound) in
       let same : units_from m.stage m.offset (all_of m.held) ≡ found_then m.offset (last_at (state_at m) m.held) (λ next. end_whole) =
       from_is m.stage m.offset (all_of m.held)
       ∙ ap (λ t. units (cond t None (Some too_long_verdict)) (state_at m) m.offset
       (cond t m.held (take (length_limit - 1 - m.offset) m.held))) below
       ∙ units_stop None (state_at m) m.offset m.held nothing in
-      ap (option_map (λ c. with_input m.input (units_from m.stage m.offset c))) (ended_ahead m ended)
+      ap (option_map (λ c. with_input m.input (units_from m.stage m.offset c)))
+      (ended_ahead m ended ∙ ap (λ t. Some (ended_with t m.held)) uncut)
       ∙ ap (λ s. Some (with_input m.input s)) same
+
+  -- at the end of the input, if it is missing
+  pub cut_at_end : lacks_end m.end ≡ true → m.ended ≡ true → rest_of_units m ≡ Some
+      (end_refused (fault_of m.input (verdict_at (m.offset + length m.held) NoEnd)))
+  cut_at_end cut ended =
+      ap (option_map (λ c. with_input m.input (units_from m.stage m.offset c)))
+      (ended_ahead m ended ∙ ap (λ t. Some (ended_with t m.held)) cut)
+      ∙ ap (λ s. Some (with_input m.input s)) (failed_there NoEnd)

@@ -2,24 +2,29 @@
 -- after.
 use Rattle.std.proofs.Common.{◌≡◌, ◌⊎◌, inl, inr, ℕ, ◌+◌, ◌-◌, ◌≤◌, ◌<◌, ◌^◌, true, false, cond, List, [], ◌++◌, length, drop, refl, sym}
 use Rattle.std.proofs.Common.{ap, ◌∙◌, subst, arith, Option, Some, None, option_map, IfSome, Result, Ok, Err, length-drop}
-use Rattle.std.proofs.lemmas.List.{append-nil, nil_from_length}
+use Rattle.std.proofs.Common.{take, append_assoc, length-append}
+use Rattle.std.proofs.Math.Seq.{drop-append_seam}
+use Rattle.std.proofs.lemmas.List.{append-nil, nil_from_length, take_all}
 use Rattle.osm_files.specs.declared.fault.Fault.{Fault}
 use Rattle.osm_files.specs.declared.reason.Reason.{Reason}
-use Rattle.osm_files.specs.declared.reason.Reason.TheVariants.{Memory, ReadFault}
+use Rattle.osm_files.specs.declared.reason.Reason.TheVariants.{Memory, ReadFault, NoEnd}
 use Rattle.osm_files.specs.Fault.{memory_fault, too_long_fault, fault_at}
-use Rattle.osm_files.specs.Input.{InputRest, whole_input, broken_input, with_front}
-use Rattle.osm_files.specs.Stream.{Placed, new_placed, end_refused}
+use Rattle.osm_files.specs.Input.{InputRest, whole_input, broken_input, with_front, Gave}
+use Rattle.osm_files.specs.Stream.{Placed, new_placed, SourceRest, end_refused}
 use Rattle.osm_files.specs.Units.{unit_at}
 use Rattle.osm_files.specs.declared.unit.ReadUnit.{ReadUnit}
 use Rattle.osm_files.specs.Source.{SourceStep, StepsOn}
 use Rattle.osm_files.specs.Position.{Position, KnownPosition, with_rest, Between, rest_of_bytes, rest_of_units, units_or_failed}
+use Rattle.osm_files.specs.EndRule.{lacks_end, test_after, failure_if, cut_if, by_test}
+use Rattle.osm_files.proofs.EndRuleLaws.{lacks_nothing, test_on}
+use Rattle.osm_files.proofs.FailureLaws.{failure_stays}
 use Rattle.osm_files.specs.Position.{units_left, KeepsRest, ReadsOn, HasRead}
 use Rattle.osm_files.specs.Position.{Halts, StopsAt, state_at, FindsUnit}
 use Rattle.osm_files.specs.Load.{determines_format}
 use Rattle.osm_files.proofs.FillLaws.{ahead_open, fill_full, kept, keeps_on}
 use Rattle.osm_files.proofs.GroupLaws.{step_on}
 use Rattle.osm_files.proofs.LoadLaws.{format_refused}
-use Rattle.osm_files.proofs.PositionLaws.{goes_on, goes_further, reads_go_on, ended_ahead, stopped}
+use Rattle.osm_files.proofs.PositionLaws.{goes_on, goes_further, reads_go_on, ended_ahead, stopped, cut_at_end}
 use Rattle.osm_files.proofs.ReadingLaws.{GoesOver, telling_found, none_goes_on, held_size, held_goes_over, held_refuses, over_gives}
 use Rattle.osm_files.proofs.ReadingLaws.{over_passes, refusal_step, keeps_still}
 
@@ -45,6 +50,13 @@ reads_further p m q a b = record {
   failed = b.failed ∙ a.failed;
   ahead = keeps_on (rest_of_bytes p) (rest_of_bytes m) (rest_of_bytes q) a.ahead b.ahead;
 }
+
+-- the bytes after those held are the new ones
+pub took : (front held all : List ℕ) (n : ℕ) → all ≡ held ++ front → n ≡ length held → take (length all - n) (drop n all) ≡ front
+took front held all n is size =
+    let dropped : drop n all ≡ front = (λ i. drop (size i) (is i)) ∙ drop-append_seam held front in
+    ap (take (length all - n)) dropped
+    ∙ take_all (length all - n) front (omega (arith, ap length is, length-append held front, size))
 
 module _ {R : Type 0} (can : R → InputRest → Type 0) where
   -- ---- steps in sequence
@@ -112,9 +124,9 @@ module _ {R : Type 0} (can : R → InputRest → Type 0) where
   -- ---- reading more bytes
   -- the end of the input was found
   pub fill_ended : (p q : Position R) (front : List ℕ) → p.ended ≡ false → q.ended ≡ true → q.input ≡ p.input → q.offset ≡ p.offset
-      → q.stage ≡ p.stage → q.failed ≡ p.failed → q.held ≡ p.held ++ front → length front ≡ 0
+      → q.stage ≡ p.stage → q.end ≡ p.end → q.failed ≡ p.failed → q.held ≡ p.held ++ front → length front ≡ 0
       → can p.rest (whole_input []) → HasRead can p q
-  fill_ended p q front unended ended input offset stage failed held none ends =
+  fill_ended p q front unended ended input offset stage end failed held none ends =
       let same : q.held ≡ p.held ++ [] = held ∙ ap (λ xs. p.held ++ xs) (nil_from_length front none) in
       record {
         offset = offset;
@@ -131,10 +143,42 @@ module _ {R : Type 0} (can : R → InputRest → Type 0) where
             ahead =
                 subst (λ (o : Option InputRest). IfSome o (λ x. rest_of_bytes (with_rest q later) ≡ Some x))
                 (sym (ahead_open (with_rest p (whole_input [])) unended))
-                (ended_ahead (with_rest q later) ended ∙ ap (λ xs. Some (whole_input xs)) same);
+                (ended_ahead (with_rest q later) ended
+                ∙ (λ i. Some (cut_if ((ap lacks_end end ∙ sym (lacks_nothing p.end)) i) (whole_input (same i)))));
           },
         );
       }
+
+  -- more bytes came
+  pub fill_more : (p q : Position R) (front : List ℕ) → p.ended ≡ false → q.ended ≡ false → q.input ≡ p.input → q.offset ≡ p.offset
+      → q.stage ≡ p.stage → q.end ≡ test_after p.end front → q.failed ≡ p.failed → q.held ≡ p.held ++ front
+      → Gave can p.rest q.rest front → HasRead can p q
+  fill_more p q front going unended input offset stage end failed held gave = record {
+    offset = offset;
+    stage = stage;
+    failed = failed;
+    reads = λ later g. (
+        let (c, could, joined) = gave later g in (
+          c,
+          could,
+          record {
+            input = input;
+            offset = offset;
+            stage = stage;
+            failed = failed;
+            ahead =
+                subst (λ (o : Option InputRest). IfSome o (λ x. rest_of_bytes (with_rest q later) ≡ Some x))
+                (sym (ahead_open (with_rest p c) going))
+                (ahead_open (with_rest q later) unended
+                ∙ (λ i. Some (record {
+                  bytes = (ap (λ xs. xs ++ later.bytes) held ∙ append_assoc p.held front later.bytes) i;
+                  failure = failure_if
+                      ((ap (λ e. lacks_end (test_after e later.bytes)) end ∙ test_on p.end front later.bytes) i) later.failure;
+                }))
+                ∙ ap (λ (x : InputRest). Some (with_front p.held (by_test p.end x))) (sym joined));
+          },
+        ));
+  }
 
   -- memory ran out, or the input failed
   pub fill_stopped : (p : Position R) (one : InputRest) (reason : Reason) (fault : Fault) → can p.rest one
@@ -147,7 +191,13 @@ module _ {R : Type 0} (can : R → InputRest → Type 0) where
     broken e,
     inr (subst (λ (o : Option InputRest). IfSome o (λ c. Halts (with_rest p (broken_input [])) c fault))
         (sym (ahead_open (with_rest p (broken_input [])) unended))
-        (inl (ap (λ xs. broken_input xs) (append-nil p.held), is ∙ ap (fault_at p.input (p.offset + length p.held)) e))),
+        (inl (
+          (λ i. record {
+            bytes = append-nil p.held i;
+            failure = failure_stays (lacks_end (test_after p.end [])) ReadFault i;
+          }),
+          is ∙ ap (fault_at p.input (p.offset + length p.held)) e,
+        ))),
   )
 
   -- one byte came after as many as a file may have
@@ -282,3 +332,13 @@ module _ {R : Type 0} (can : R → InputRest → Type 0) where
       → m.offset + length m.held < 2 ^ 62 → StopsAt can m fault → StepsOn can m (Err fault) r
   fill_refused m r fault fine failed nothing bound stops =
       refused_ever m r fault stops.0 stops.1 fine failed (stopped (with_rest m stops.0) nothing bound fault stops.2)
+
+  -- because the end of the file is missing
+  pub cut_refused : (m r : Position R) (fault : Fault) → m.failed ≡ false → r.failed ≡ true → unit_at (state_at m) m.held ≡ None
+      → m.offset + length m.held < 2 ^ 62 → m.ended ≡ true → lacks_end m.end ≡ true
+      → fault ≡ fault_at m.input (m.offset + length m.held) NoEnd → (one : InputRest) → can m.rest one → StepsOn can m (Err fault) r
+  cut_refused m r fault fine failed nothing bound ended lacks is one possible =
+      let p = with_rest m one in
+      refused_ever m r fault one possible fine failed
+      (inr (subst (λ (o : Option (SourceRest Placed Fault)). IfSome o (λ s. s ≡ end_refused fault))
+      (sym (cut_at_end p nothing bound lacks ended)) (ap end_refused (sym is))))

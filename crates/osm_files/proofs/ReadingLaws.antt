@@ -23,6 +23,7 @@ use Rattle.osm_files.specs.Units.{FileStateData, InOpl, BeforeHeader, InSegment,
 use Rattle.osm_files.specs.Units.{found_then}
 use Rattle.osm_files.specs.Units.{units}
 use Rattle.osm_files.specs.Reading.{Finds, FindsLast, state_data_of, version_of_unit}
+use Rattle.osm_files.specs.EndRule.{lacks_end}
 use Rattle.osm_files.specs.Position.{Position, KnownPosition, with_rest, rest_of_bytes, state_or_start, closing_verdict, window}
 use Rattle.osm_files.specs.Position.{units_from, fault_of, with_input, rest_of_units}
 use Rattle.osm_files.specs.Position.{units_or_failed, Keeps, KeepsRest, state_at, with_state, FindsUnit}
@@ -328,13 +329,13 @@ refused_by offset (Ok found) reason e = absurd (let f : Ok found.0 ≡ Err reaso
 refused_by offset (Err other) reason e = let f : other ≡ reason = cc in ap (λ r. end_refused (verdict_at offset r)) f
 
 module _ (m : KnownPosition) (nothing : unit_at (state_at m) m.held ≡ None) (bound : m.offset + length m.held < 2 ^ 62)
-    (ended : m.ended ≡ true) where
+    (uncut : lacks_end m.end ≡ false) (ended : m.ended ≡ true) where
   abbrev last_found : UnitResult
   last_found = last_at (state_at m) m.held
 
   comes : (version : Option VersionData) → version_of_unit last_found ≡ Ok version
       → rest_of_units m ≡ Some (with_input m.input (found_then m.offset (Ok (version, InOpl)) (λ next. end_whole)))
-  comes version e = at_the_end m nothing bound ended ∙ ap (λ s. Some (with_input m.input s)) (found_by m.offset last_found version e)
+  comes version e = at_the_end m nothing bound uncut ended ∙ ap (λ s. Some (with_input m.input s)) (found_by m.offset last_found version e)
 
   -- a version has bytes
   last_some : (v : VersionData) → version_of_unit last_found ≡ Ok (Some v) → 0 < length m.held
@@ -359,7 +360,7 @@ module _ (m : KnownPosition) (nothing : unit_at (state_at m) m.held ≡ None) (b
       let q : KnownPosition = record m { offset = m.offset + length m.held; held = [] } in
       let same : after_last ≡ q = (λ i. record m { offset = m.offset + length m.held; held = drop-length m.held i }) in
       let found : version_of_unit (last_at (state_at q) []) ≡ Ok None = state_nothing m.stage m.held version e in
-      ap rest_of_units same ∙ at_the_end q (none_in_nothing (state_at q)) (omega (arith, bound)) ended
+      ap rest_of_units same ∙ at_the_end q (none_in_nothing (state_at q)) (omega (arith, bound)) uncut ended
       ∙ ap (λ s. Some (with_input m.input s)) (found_by q.offset (last_at (state_at q) []) None found)
 
   given_last : (version : Option VersionData) → version_of_unit last_found ≡ Ok version
@@ -399,7 +400,7 @@ module _ (m : KnownPosition) (nothing : unit_at (state_at m) m.held ≡ None) (b
   last_refuses reason fault (inl e) is = refuses m reason fault is (inl e)
   last_refuses reason fault (inr e) is =
       let at : rest_of_units m ≡ Some (end_refused (fault_of m.input (verdict_at m.offset reason))) =
-      at_the_end m nothing bound ended ∙ ap (λ s. Some (with_input m.input s)) (refused_by m.offset last_found reason e) in
+      at_the_end m nothing bound uncut ended ∙ ap (λ s. Some (with_input m.input s)) (refused_by m.offset last_found reason e) in
       refuses m reason fault is
       (inr (subst (λ (o : Option (SourceRest Placed Fault)). IfSome o
       (λ s. s ≡ end_refused (fault_of m.input (verdict_at m.offset reason))))

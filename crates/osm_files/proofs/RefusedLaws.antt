@@ -15,6 +15,8 @@ use Rattle.osm_model.specs.Order.{key_cmp, key_cmp_total, version_cmp}
 use Rattle.osm_model.proofs.VersionLaws.{version_cmp-IsAntisymmetric}
 use Rattle.osm_files.specs.declared.fault.Fault.{Fault}
 use Rattle.osm_files.specs.declared.reason.Reason.TheVariants.{Unsorted}
+use Rattle.osm_files.specs.declared.end_rule.EndRule.TheVariants as rule
+use Rattle.osm_files.specs.EndRule.{new_test}
 use Rattle.osm_files.specs.Groups.{IsGroup, to_ascending, given_at, groups, last_group, new_source, sorted_source, versions_then}
 use Rattle.osm_files.specs.Input.{InputRest}
 use Rattle.osm_files.specs.Position.{fault_of, with_rest, units_from}
@@ -274,7 +276,8 @@ refused_by input c fault (Some v) e is =
 
 -- ---- an opened source
 opened_gives : {R : Type 0} (input : ℕ) (reader : R) (c : InputRest) → given_at (new_source input reader) c ≡ Some (sorted_source input c)
-opened_gives input reader c = source_begins_known (with_rest (new_source input reader).units c) [] input (Some c) refl refl
+opened_gives input reader c = source_begins_known (new_test rule.Any) (with_rest (new_source input reader).units c) [] input (Some c) refl
+    refl
 
 -- A refused source gives the key groups before the last one that began before the fault.
 pub refused_source_gives : {R : Type 0} (can : R → InputRest → Type 0) → RefusedSourceGivesTheGroupsBefore can

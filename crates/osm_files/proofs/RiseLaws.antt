@@ -22,7 +22,9 @@ use Rattle.osm_files.specs.Groups.{still_given}
 use Rattle.osm_files.specs.Groups.{FileSourceData, FileCanGive, FileSteps, FileAscends, still_at, given_at, IsKnown, known_or_whole}
 use Rattle.osm_files.specs.Groups.{one_given}
 use Rattle.osm_files.specs.Input.{InputRest}
-use Rattle.osm_files.specs.Position.{KnownPosition, with_input, units_from, rest_of_units, units_or_failed, KeepsRest, at_start}
+use Rattle.osm_files.specs.Position.{KnownPosition, with_input, units_from, rest_of_units, units_or_failed, KeepsRest, at_start_with}
+use Rattle.osm_files.specs.declared.end_rule.EndTest.{EndTest}
+use Rattle.osm_files.specs.EndRule.{by_test}
 use Rattle.osm_files.specs.Source.{Ascends, SourceStep, SourceSteps}
 use Rattle.osm_files.specs.Stream.{Placed, SourceRest, end_whole, end_refused, front}
 use Rattle.osm_files.proofs.GroupLaws.{has, has_ascending, ascending_is, ascending_nil, strict_nil, all_append}
@@ -217,58 +219,60 @@ source_rises input c =
     subst Ascends (sym (source_is input c)) (let units = with_input input (units_from None 0 c) in
     groups_rise input units.refusal units.list)
 
-begins_so : (input : ℕ) (rest : Option InputRest) →
-    still_with_ready input (units_or_failed (at_start input rest)) [] [] ≡ option_map (sorted_source input) rest
-begins_so input None = refl
-begins_so input (Some c) = ap Some (sym (source_is input c))
+begins_so : (e : EndTest) (input : ℕ) (rest : Option InputRest)
+    → still_with_ready input (units_or_failed (at_start_with e input rest)) [] []
+    ≡ option_map (λ c. sorted_source input (by_test e c)) rest
+begins_so e input None = refl
+begins_so e input (Some c) = ap Some (sym (source_is input (by_test e c)))
 
-begins_rising : (input : ℕ) (rest : Option InputRest) → IfSome (option_map (sorted_source input) rest) Ascends
-begins_rising input None = tt
-begins_rising input (Some c) = source_rises input c
+begins_rising : (e : EndTest) (input : ℕ) (rest : Option InputRest)
+    → IfSome (option_map (λ c. sorted_source input (by_test e c)) rest) Ascends
+begins_rising e input None = tt
+begins_rising e input (Some c) = source_rises input (by_test e c)
 
-module _ (p : KnownPosition) (ready : List VersionData) (input : ℕ) (rest : Option InputRest) (begins : p ≡ at_start input rest)
-    (nothing : ready ≡ []) where
-  pub source_begins : still_with_ready p.input (units_or_failed p) [] ready ≡ option_map (sorted_source input) rest
-  source_begins = (λ i. still_with_ready (begins i).input (units_or_failed (begins i)) [] (nothing i)) ∙ begins_so input rest
+module _ (e : EndTest) (p : KnownPosition) (ready : List VersionData) (input : ℕ) (rest : Option InputRest)
+    (begins : p ≡ at_start_with e input rest) (nothing : ready ≡ []) where
+  pub source_begins : still_with_ready p.input (units_or_failed p) [] ready ≡ option_map (λ c. sorted_source input (by_test e c)) rest
+  source_begins = (λ i. still_with_ready (begins i).input (units_or_failed (begins i)) [] (nothing i)) ∙ begins_so e input rest
 
   pub source_begins_rising : IfSome (still_with_ready p.input (units_or_failed p) [] ready) Ascends
   source_begins_rising = subst (λ (o : Option (SourceRest VersionData Fault)). IfSome o Ascends) (sym source_begins)
-      (begins_rising input rest)
+      (begins_rising e input rest)
 
   -- A source of which nothing was read gives the same as the sorted file's source.
   pub source_begins_known : still_given (option_map as_set (still_with_ready p.input (units_or_failed p) [] ready))
-      ≡ option_map (sorted_source input) rest
+      ≡ option_map (λ c. sorted_source input (by_test e c)) rest
   source_begins_known = set_is_known (still_with_ready p.input (units_or_failed p) [] ready) source_begins_rising ∙ source_begins
 
 -- a reading that read bytes before it gave anything
-opens_so : (input : ℕ) (rest : Option InputRest) (q : KnownPosition) → KeepsRest (at_start input rest) q →
-    IfSome rest (λ c. still_with_ready q.input (units_or_failed q) [] [] ≡ Some (sorted_source input c))
-opens_so input None q on = tt
-opens_so input (Some c) q on =
+opens_so : (e : EndTest) (input : ℕ) (rest : Option InputRest) (q : KnownPosition) → KeepsRest (at_start_with e input rest) q →
+    IfSome rest (λ c. still_with_ready q.input (units_or_failed q) [] [] ≡ Some (sorted_source input (by_test e c)))
+opens_so e input None q on = tt
+opens_so e input (Some c) q on =
     let fine : units_or_failed q ≡ rest_of_units q =
     ap (λ b. cond b (Some (end_refused (failed_fault q.input))) (rest_of_units q)) on.failed in
-    (λ i. still_with_ready (on.input i) ((fine ∙ on.keeps) i) [] []) ∙ ap Some (sym (source_is input c))
+    (λ i. still_with_ready (on.input i) ((fine ∙ on.keeps) i) [] []) ∙ ap Some (sym (source_is input (by_test e c)))
 
 -- A source that was opened gives the same as the sorted file's source.
-pub source_opens_known : (p q : KnownPosition) (ready : List VersionData) (input : ℕ) (rest : Option InputRest) →
-    p ≡ at_start input rest →
+pub source_opens_known : (e : EndTest) (p q : KnownPosition) (ready : List VersionData) (input : ℕ) (rest : Option InputRest) →
+    p ≡ at_start_with e input rest →
     KeepsRest p q → ready ≡ [] → IfSome rest (λ c. still_given (option_map as_set (still_with_ready q.input (units_or_failed q) [] ready))
-    ≡ Some (sorted_source input c))
-source_opens_known p q ready input rest begins on nothing =
+    ≡ Some (sorted_source input (by_test e c)))
+source_opens_known e p q ready input rest begins on nothing =
     let rises : IfSome (still_with_ready q.input (units_or_failed q) [] ready) Ascends =
     subst (λ (xs : List VersionData). IfSome (still_with_ready q.input (units_or_failed q) [] xs) Ascends) (sym nothing)
     (pending_rises q.input (units_or_failed q) None) in
-    IfSome_then rest (opens_so input rest q (subst (λ (x : KnownPosition). KeepsRest x q) begins on))
-    (λ c e. set_is_known (still_with_ready q.input (units_or_failed q) [] ready) rises
-    ∙ (λ i. still_with_ready q.input (units_or_failed q) [] (nothing i)) ∙ e)
+    IfSome_then rest (opens_so e input rest q (subst (λ (x : KnownPosition). KeepsRest x q) begins on))
+    (λ c is. set_is_known (still_with_ready q.input (units_or_failed q) [] ready) rises
+    ∙ (λ i. still_with_ready q.input (units_or_failed q) [] (nothing i)) ∙ is)
 
 -- A source that can't be opened is refused as the sorted file's source is, or for Memory.
-pub opens_refused : (input : ℕ) (rest : Option InputRest) (fault : Fault) (after : Option (SourceRest Placed Fault)) →
-    SourceStep {A = Placed} (units_or_failed (at_start input rest)) (Err fault) after
-    → (fault ≡ memory_fault) ⊎ IfSome rest (λ c. (sorted_source input c).refusal ≡ Some fault)
-opens_refused input None fault after step = ⊎_elim (λ e. inl e) (λ k. inr tt) step.0
-opens_refused input (Some c) fault after step =
-    ⊎_elim (λ e. inl e) (λ k. inr (ap (λ (s : SourceRest VersionData Fault). s.refusal) (source_is input c)
+pub opens_refused : (e : EndTest) (input : ℕ) (rest : Option InputRest) (fault : Fault) (after : Option (SourceRest Placed Fault)) →
+    SourceStep {A = Placed} (units_or_failed (at_start_with e input rest)) (Err fault) after
+    → (fault ≡ memory_fault) ⊎ IfSome rest (λ c. (sorted_source input (by_test e c)).refusal ≡ Some fault)
+opens_refused e input None fault after step = ⊎_elim (λ memory. inl memory) (λ k. inr tt) step.0
+opens_refused e input (Some c) fault after step =
+    ⊎_elim (λ memory. inl memory) (λ k. inr (ap (λ (s : SourceRest VersionData Fault). s.refusal) (source_is input (by_test e c))
     ∙ ap (λ (s : SourceRest Placed Fault). (groups input s.refusal s.list []).refusal) k)) step.0
 
 -- a call, in terms of sets

@@ -1,7 +1,7 @@
 -- The order of a run's versions, and the refusals of a run, by what its input gave.
 use Rattle.std.proofs.Common.{◌≡◌, ◌⊎◌, inl, inr, ⊎_elim, ℕ, ◌+◌, ◌-◌, ◌≤◌, ◌<◌, ◌^◌, nat_lt, Bool, true, false, cond, List, []}
 use Rattle.std.proofs.Common.{◌∷◌, ◌++◌, length, take, refl, sym, ap, ◌∙◌, subst, arith, Option, Some, None, option_map}
-use Rattle.std.proofs.Common.{append-nil, append_assoc, length-append, length-drop, min}
+use Rattle.std.proofs.Common.{append-nil, append_assoc, length-append, length-drop, min, is_some}
 use Rattle.std.proofs.Math.Seq.{take-append-add}
 use Rattle.std.proofs.lemmas.Bool.{cases_lt, false≢true, ltb-true}
 use Rattle.std.proofs.lemmas.Bool.Decides.{nat_tests}
@@ -15,19 +15,20 @@ use Rattle.osm_files.specs.Fault.{fault_at}
 use Rattle.osm_files.specs.FileRuns.{GivesSortedFile, IsSortedRun, IfWhole, IsAccepted, IsReadFailure, IsFirstUnsortedIn, IsRefusalOf}
 use Rattle.osm_files.specs.Groups.{sorted_source}
 use Rattle.osm_files.specs.Held.{HoldsSorted}
-use Rattle.osm_files.specs.Input.{InputRest, GivesOne}
+use Rattle.osm_files.specs.Input.{InputRest, GivesOne, whole_input, broken_input, failed_after}
 use Rattle.osm_files.specs.Load.{StopsOpening}
-use Rattle.osm_files.specs.LoadLaws.{broken_after, is_verdict_reason}
+use Rattle.osm_files.specs.LoadLaws.{is_verdict_reason}
 use Rattle.osm_files.specs.Position.{fault_of, units_from, with_input}
 use Rattle.osm_files.specs.SortedRun.{bytes_before, bytes_after, run_bytes, offset_in_file}
 use Rattle.osm_files.specs.SourceLaws.{verdict_within}
 use Rattle.osm_files.specs.Stream.{Verdict, verdict_at, SourceRest, Placed}
 use Rattle.osm_files.specs.Units.{units, start_of}
 use Rattle.osm_files.specs.Verdict.{length_limit, too_long_verdict, file_units, sorted_verdict, verdict, verdict_sorted}
+use Rattle.osm_files.proofs.FailureLaws.{failed_short}
 use Rattle.osm_files.proofs.FaultyLaws.{faulty_or_closed, faulty_stays, malformed_stays}
 use Rattle.osm_files.proofs.FileLaws.{files_are_read, verdict_without_order}
-use Rattle.osm_files.proofs.LoadFaults.{inputs_are_files, broken_inputs, reasons_of_verdicts}
-use Rattle.osm_files.proofs.HoldLaws.{whole_refusal, broken_source_ends, long_source_ends}
+use Rattle.osm_files.proofs.LoadFaults.{inputs_are_files, failed_inputs, reasons_of_verdicts}
+use Rattle.osm_files.proofs.HoldLaws.{whole_refusal, failed_source_ends, long_source_ends}
 use Rattle.osm_files.proofs.ReadingLaws.{fault_is}
 use Rattle.osm_files.proofs.RunBytes.{run_given}
 
@@ -42,13 +43,13 @@ part_front front rest size fits =
     ap (λ n. take n (front ++ rest)) all ∙ take-append-add front rest (size - length front)
 
 -- What a run gives before it fails is the front of its bytes.
-pub run_front : (Fails : Type 0) (all : List ℕ) (run : SortedRun) (size : ℕ) (bytes : List ℕ)
-    → RunCanGive Fails (Some all) run size (broken_after bytes) → IsFront bytes (run_bytes run all)
-run_front Fails all run size bytes (given, gives, is) =
+pub run_front : (Fails : Type 0) (all : List ℕ) (run : SortedRun) (size : ℕ) (reason : Reason) (bytes : List ℕ)
+    → RunCanGive Fails (Some all) run size (failed_after reason bytes) → IsFront bytes (run_bytes run all)
+run_front Fails all run size reason bytes (given, gives, is) =
     let before : List ℕ = bytes_before run in
     let after : List ℕ = bytes_after run in
     let fits : length given.bytes ≤ run.size = omega (arith, gives.within) in
-    let broken : given.broken ≡ true = ap (λ c. c.broken) (sym is) in
+    let broken : is_some given.failure ≡ true = ap (λ c. is_some c.failure) (sym is) in
     let at = gives.bytes in
     let more : List ℕ = take (run.size - length given.bytes) at.0 ++ after in
     let here : bytes ≡ before ++ given.bytes =
@@ -97,13 +98,16 @@ Refuses Fails input bytes fault =
 
 -- Reads of a file fail if a run of it gives fewer bytes than it has.
 pub broken_fails : (Fails : Type 0) (all : List ℕ) (run : SortedRun) (size : ℕ) (c : InputRest) → length all ≡ size
-    → RunCanGive Fails (Some all) run size c → c.broken ≡ true → Fails
-broken_fails Fails all run size c whole (given, gives, is) broken =
+    → RunCanGive Fails (Some all) run size c → (reason : Reason) → c.failure ≡ Some reason → Fails × (reason ≡ ReadFault)
+broken_fails Fails all run size c whole (given, gives, is) reason failed =
     let part : ℕ = min (run.start + run.size) size - run.start in
-    let short = ltb-true (length given.bytes) part (sym gives.broken ∙ ap (λ c. c.broken) (sym is) ∙ broken) in
-    ⊎_elim (λ fails. fails)
-    (λ last. absurd (omega (arith, short, whole, ap length last, length-drop run.start all)))
-    (gives.why short)
+    let why = failed_short (nat_lt (length given.bytes) part) reason (sym gives.failure ∙ ap (λ c. c.failure) (sym is) ∙ failed) in
+    let short = ltb-true (length given.bytes) part why.0 in (
+      ⊎_elim (λ fails. fails)
+          (λ last. absurd (omega (arith, short, whole, ap length last, length-drop run.start all)))
+          (gives.why short),
+      why.1,
+    )
 
 module _ (Fails : Type 0) (fails : Fails) (input : ℕ) (bytes more : List ℕ) (fault : Fault) where
   short_refuses : length bytes < 2 ^ 62
@@ -122,26 +126,29 @@ module _ (Fails : Type 0) (fails : Fails) (input : ℕ) (bytes more : List ℕ) 
       inl (inr (fails, ap (λ f. f.reason) found.2 ∙ ap (λ v. v.reason) (sym is)))))
       (faulty_or_closed bytes)
 
-  broken_refuses : (sorted_source input (broken_after bytes)).refusal ≡ Some fault → Refuses Fails input (bytes ++ more) fault
+  broken_refuses : (sorted_source input (broken_input bytes)).refusal ≡ Some fault → Refuses Fails input (bytes ++ more) fault
   broken_refuses e =
       ⊎_elim
-      (λ short. short_refuses short (sym (broken_source_ends input bytes short) ∙ e))
+      (λ short. short_refuses short (sym (failed_source_ends ReadFault input bytes short) ∙ e))
       (λ long. (
       let found = mapped_fault input (verdict_sorted bytes) fault
-      (sym (whole_refusal input bytes) ∙ ap (λ s. s.refusal) (sym (long_source_ends input bytes long)) ∙ e) in
+      (sym (whole_refusal input bytes) ∙ ap (λ s. s.refusal) (sym (long_source_ends ReadFault input bytes long)) ∙ e) in
       inr (found.0, long_stays bytes more long ∙ found.1, found.2)))
       (cases_lt (length bytes) (2 ^ 62))
 
-given_refuses : (Fails : Type 0) (all : List ℕ) (run : SortedRun) (size : ℕ) (input : ℕ) (fault : Fault) (bytes : List ℕ) (broken : Bool)
-    → length all ≡ size → RunCanGive Fails (Some all) run size (record { bytes = bytes; broken = broken })
-    → (sorted_source input (record { bytes = bytes; broken = broken })).refusal ≡ Some fault → Refuses Fails input (run_bytes run all) fault
-given_refuses Fails all run size input fault bytes true whole gives e =
-    let front = run_front Fails all run size bytes gives in
-    let fails = broken_fails Fails all run size (broken_after bytes) whole gives refl in
-    subst (λ xs. Refuses Fails input xs fault) (sym front.1) (broken_refuses Fails fails input bytes front.0 fault e)
-given_refuses Fails all run size input fault bytes false whole gives e =
+given_refuses : (Fails : Type 0) (all : List ℕ) (run : SortedRun) (size : ℕ) (input : ℕ) (fault : Fault) (bytes : List ℕ)
+    (failure : Option Reason) → length all ≡ size → RunCanGive Fails (Some all) run size (record { bytes = bytes; failure = failure })
+    → (sorted_source input (record { bytes = bytes; failure = failure })).refusal ≡ Some fault
+    → Refuses Fails input (run_bytes run all) fault
+given_refuses Fails all run size input fault bytes (Some reason) whole gives e =
+    let front = run_front Fails all run size reason bytes gives in
+    let fails = broken_fails Fails all run size (failed_after reason bytes) whole gives reason refl in
+    let is : (sorted_source input (broken_input bytes)).refusal ≡ Some fault =
+    (λ i. (sorted_source input (failed_after (sym fails.1 i) bytes)).refusal) ∙ e in
+    subst (λ xs. Refuses Fails input xs fault) (sym front.1) (broken_refuses Fails fails.0 input bytes front.0 fault is)
+given_refuses Fails all run size input fault bytes None whole gives e =
     let found = mapped_fault input (verdict_sorted bytes) fault (sym (whole_refusal input bytes) ∙ e) in
-    let same : bytes ≡ run_bytes run all = run_given Fails all run size (record { bytes = bytes; broken = false }) whole gives refl in
+    let same : bytes ≡ run_bytes run all = run_given Fails all run size (whole_input bytes) whole gives refl in
     inr (found.0, ap verdict_sorted (sym same) ∙ found.1, found.2)
 
 -- A run whose source is refused has the refusal as its verdict on order, or a read failed.
@@ -149,7 +156,7 @@ pub run_refuses : (Fails : Type 0) (all : List ℕ) (run : SortedRun) (size : �
     → GivesOne (RunCanGive Fails (Some all) run size) (λ c. StopsOpening input c fault) → Refuses Fails input (run_bytes run all) fault
 run_refuses Fails all run size input fault whole (c, gives, inl memory) = inl (inl memory)
 run_refuses Fails all run size input fault whole (c, gives, inr e) =
-    given_refuses Fails all run size input fault c.bytes c.broken whole gives e
+    given_refuses Fails all run size input fault c.bytes c.failure whole gives e
 
 -- ---- the result of reading a run
 -- bytes with a verdict are no file
@@ -257,7 +264,7 @@ accepted_whole bytes v e (held, holds) =
     (let f : None ≡ Some v = sym none ∙ e in cc)
 
 module _ (Fails : Type 0) (all : List ℕ) (run : SortedRun) (size input : ℕ) (fault : Fault) (whole : length all ≡ size) where
-  broken_units : (bytes more : List ℕ) (v : Verdict) → Fails → (units_from None 0 (broken_after bytes)).refusal ≡ Some v
+  broken_units : (bytes more : List ℕ) (v : Verdict) → Fails → (units_from None 0 (broken_input bytes)).refusal ≡ Some v
       → fault ≡ fault_of input v → IsRefusalOf Fails (bytes ++ more) fault
   broken_units bytes more v fails e is =
       ⊎_elim
@@ -271,23 +278,25 @@ module _ (Fails : Type 0) (all : List ℕ) (run : SortedRun) (size input : ℕ) 
       let at : verdict_at (length bytes) ReadFault ≡ v = cc in
       inl (inr (fails, ap (λ f. f.reason) is ∙ ap (λ v. v.reason) (sym at)))))
       short)
-      (broken_inputs bytes)
+      (failed_inputs ReadFault bytes)
 
-  given_units : (bytes : List ℕ) (broken : Bool) → RunCanGive Fails (Some all) run size (record { bytes = bytes; broken = broken })
-      → (with_input input (units_from None 0 (record { bytes = bytes; broken = broken }))).refusal ≡ Some fault
+  given_units : (bytes : List ℕ) (failure : Option Reason)
+      → RunCanGive Fails (Some all) run size (record { bytes = bytes; failure = failure })
+      → (with_input input (units_from None 0 (record { bytes = bytes; failure = failure }))).refusal ≡ Some fault
       → IsRefusalOf Fails (run_bytes run all) fault
-  given_units bytes true gives e =
-      let front = run_front Fails all run size bytes gives in
-      let found = mapped_fault input (units_from None 0 (broken_after bytes)).refusal fault e in
-      subst (λ xs. IsRefusalOf Fails xs fault) (sym front.1)
-      (broken_units bytes front.0 found.0 (broken_fails Fails all run size (broken_after bytes) whole gives refl) found.1 found.2)
-  given_units bytes false gives e =
+  given_units bytes (Some reason) gives e =
+      let front = run_front Fails all run size reason bytes gives in
+      let fails = broken_fails Fails all run size (failed_after reason bytes) whole gives reason refl in
+      let found = mapped_fault input (units_from None 0 (broken_input bytes)).refusal fault
+      ((λ i. (with_input input (units_from None 0 (failed_after (sym fails.1 i) bytes))).refusal) ∙ e) in
+      subst (λ xs. IsRefusalOf Fails xs fault) (sym front.1) (broken_units bytes front.0 found.0 fails.0 found.1 found.2)
+  given_units bytes None gives e =
       let found = mapped_fault input (verdict bytes) fault (sym (inputs_are_files input bytes).1 ∙ e) in
-      let same : bytes ≡ run_bytes run all = run_given Fails all run size (record { bytes = bytes; broken = false }) whole gives refl in
+      let same : bytes ≡ run_bytes run all = run_given Fails all run size (whole_input bytes) whole gives refl in
       inr (accepted_whole (run_bytes run all) found.0 (ap verdict (sym same) ∙ found.1))
 
 -- A run whose units are refused is no file, or a read failed.
 pub units_refuse : (Fails : Type 0) (all : List ℕ) (run : SortedRun) (size input : ℕ) (fault : Fault) (c : InputRest) → length all ≡ size
     → RunCanGive Fails (Some all) run size c → (with_input input (units_from None 0 c)).refusal ≡ Some fault
     → IsRefusalOf Fails (run_bytes run all) fault
-units_refuse Fails all run size input fault c whole = given_units Fails all run size input fault whole c.bytes c.broken
+units_refuse Fails all run size input fault c whole = given_units Fails all run size input fault whole c.bytes c.failure

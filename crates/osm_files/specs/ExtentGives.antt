@@ -18,7 +18,7 @@ pub extent_given : (Fails : Type 0) (known : Option (List ℕ)) (next end : ℕ)
     → ExtentCanGive Fails known next end (extent_rest next end (known_bytes known))
 extent_given Fails known next end = record {
   within = omega (arith, length-take (end - next) (drop next (known_bytes known)));
-  broken = refl;
+  failure = refl;
   bytes = at_known known next (end - next);
   why = λ few. inr (last_known known next (end - next) few);
 }

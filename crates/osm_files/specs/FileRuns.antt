@@ -24,7 +24,7 @@ StopsSource can s fault = (fault ≡ memory_fault)
 
 -- an input gives a sorted file, and then its end
 abbrev pub GivesSortedFile : InputRest → Type 0
-GivesSortedFile c = (c.broken ≡ false) × ((held : VersionSet) × HoldsSorted c.bytes held)
+GivesSortedFile c = (c.failure ≡ None) × ((held : VersionSet) × HoldsSorted c.bytes held)
 
 -- the bytes of the run of this file are a sorted file
 abbrev pub IsSortedRun : List ℕ → SortedRun → Type 0

@@ -135,7 +135,7 @@ pub record HasFirstFault (c : InputRest) (versions : List VersionData) (v : Verd
 -- one that began before the first fault, and then that fault.
 abbrev pub IsGivenBy : ℕ → InputRest → SourceRest VersionData Fault → Type 0
 IsGivenBy input c given =
-    ((c.broken ≡ false) × ((held : VersionSet) × HoldsSorted c.bytes held × (given ≡ set_given held)))
+    ((c.failure ≡ None) × ((held : VersionSet) × HoldsSorted c.bytes held × (given ≡ set_given held)))
     ⊎ ((versions : List VersionData) × (v : Verdict) × HasFirstFault c versions v
     × (given ≡ record { list = to_ascending (groups_before_last versions); refusal = Some (fault_of input v) }))
 

@@ -17,6 +17,10 @@ use Rattle.osm_files.specs.Fault.{memory_fault, failed_fault}
 use Rattle.osm_files.specs.Input.{InputRest, whole_input as all_of, with_front, Explained}
 use Rattle.osm_files.specs.Position.{Position, with_rest, Between, rest_of_units, units_or_failed, units_from}
 use Rattle.osm_files.specs.Position.{units_left, with_input}
+use Rattle.osm_files.specs.declared.end_rule.EndRule.TheVariants as rule
+use Rattle.osm_files.specs.declared.end_rule.EndRule.{EndRule}
+use Rattle.osm_files.specs.EndRule.{new_test, cut_if, by_test, lacks_end}
+use Rattle.osm_files.specs.Position.{at_start_with}
 use Rattle.osm_files.specs.Position.{fault_of, Keeps}
 use Rattle.osm_files.specs.Source.{Ascends, SourceStep}
 use Rattle.osm_files.specs.Stream.{verdict_at, Placed, SourceRest, end_whole, end_refused}
@@ -66,18 +70,6 @@ abbrev pub still_with_ready : ℕ → Option (SourceRest Placed Fault) → List 
 still_with_ready input units group ready =
     option_map (λ s. versions_then ready (groups input s.refusal s.list group)) units
 
--- a reading before its first byte
-abbrev pub fresh_reading : {R : Type 0} → ℕ → R → Position R
-fresh_reading input reader = record {
-  input = input;
-  offset = 0;
-  held = [];
-  rest = reader;
-  stage = None;
-  ended = false;
-  failed = false;
-}
-
 -- A source of a sorted file between two calls: the position of its reading, the versions that were read of the next
 -- group, and the rest of the group that is given.
 pub record FileSourceData (R : Type 0) : Type 0 where
@@ -88,9 +80,13 @@ pub record FileSourceData (R : Type 0) : Type 0 where
 abbrev pub source_data : {R : Type 0} → Position R → List VersionData → List VersionData → FileSourceData R
 source_data units group ready = record { units = units; group = group; ready = ready }
 
--- a source of a file before its first byte
+-- a source of a file that has to end by this rule, before its first byte
+abbrev pub ended_source : {R : Type 0} → EndRule → ℕ → R → FileSourceData R
+ended_source end input reader = source_data (at_start_with (new_test end) input reader) [] []
+
+-- without a rule for the end
 abbrev pub new_source : {R : Type 0} → ℕ → R → FileSourceData R
-new_source input reader = source_data (fresh_reading input reader) [] []
+new_source = ended_source rule.Any
 
 -- the source after these versions of the next group were read, with nothing left of the group before
 abbrev pub with_group : {R : Type 0} → FileSourceData R → List VersionData → FileSourceData R
@@ -170,7 +166,8 @@ still_known p c =
       | true ↦ tt
       | false ↦ (elim p.ended as (λ t. IsKnown
           (option_map (λ x. with_input p.input (units_from p.stage p.offset x))
-          (if t then Some (all_of p.held) else Some (with_front p.held c)))) [
+          (if t then Some (cut_if (lacks_end p.end) (all_of p.held))
+          else Some (with_front p.held (by_test p.end c))))) [
             | true ↦ tt
             | false ↦ tt
           ])

@@ -2,8 +2,7 @@ pub mod Format
 pub mod Reason
 pub mod Fault
 pub mod Input
-pub mod WholeLines
-pub mod EndMark
+pub mod EndRule
 pub mod Output
 pub mod Clear
 pub mod Change

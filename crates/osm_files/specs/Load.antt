@@ -10,6 +10,8 @@ use Rattle.osm_files.specs.declared.format.Format.TheVariants.{Opl, O5m, O5c}
 use Rattle.osm_files.specs.declared.load.Loaded.{Loaded}
 use Rattle.osm_files.specs.Fault.{memory_fault}
 use Rattle.osm_files.specs.Groups.{FileSourceData, FileCanGive, sorted_source}
+use Rattle.osm_files.specs.declared.end_rule.EndRule.{EndRule}
+use Rattle.osm_files.specs.EndRule.{by_rule}
 use Rattle.osm_files.specs.Input.{InputRest, Explained}
 use Rattle.osm_files.specs.O5.{o5m_header, reset_byte}
 use Rattle.osm_files.specs.Held.{Holds, HoldsSorted}
@@ -36,10 +38,10 @@ abbrev pub DeterminesFormat : Format → KnownPosition → KnownPosition → Typ
 DeterminesFormat format before after = KeepsRest before after ×
     IfSome (rest_of_bytes before) (λ c. format ≡ format_of c.bytes)
 
--- the bytes are a file and no error follows them; the result has the file's versions, its format and whether it is
--- sorted
+-- the bytes are a file, which the input gives and then ends well; the result has the file's versions, its format and
+-- whether it is sorted
 pub record Loads (c : InputRest) (loaded : Loaded) : Type 0 where
-  pub unbroken : c.broken ≡ false
+  pub unbroken : c.failure ≡ None
   pub holds : Holds c.bytes loaded.history
   pub format : loaded.format ≡ format_of c.bytes
   pub sorted : IsTrue loaded.sorted ↔ HoldsSorted c.bytes loaded.history
@@ -53,15 +55,19 @@ pub record IsRead (input : ℕ) (c : InputRest) (versions : List VersionData) (f
   pub shown : format ≡ format_of c.bytes
   pub rises : IsTrue sorted ↔ IsSorted key_cmp versions
 
--- A source of this input's file was opened, and its format returned: for each list that the source can give, the reader
--- could give a file of this format whose source gives that list.
-abbrev pub Opens : {R : Type 0} → (R → InputRest → Type 0) → ℕ → R → Format → FileSourceData R → Type 0
-Opens can input reader format s = Explained (can reader) (FileCanGive can s)
-    (λ c still. (format ≡ format_of c.bytes) × (still ≡ sorted_source input c))
+-- A source of this input's file was opened, which has to end as the rule says, and its format returned: for each list
+-- that the source can give, the reader could give a file of this format whose source gives that list.
+abbrev pub Opens : {R : Type 0} → (R → InputRest → Type 0) → EndRule → ℕ → R → Format → FileSourceData R → Type 0
+Opens can end input reader format s = Explained (can reader) (FileCanGive can s)
+    (λ c still. (format ≡ format_of c.bytes) × (still ≡ sorted_source input (by_rule end c)))
 
 -- why the source of this input's file isn't opened: memory ran out, or the source of the file ends with this refusal
 abbrev pub StopsOpening : ℕ → InputRest → Fault → Type 0
 StopsOpening input c fault = (fault ≡ memory_fault) ⊎ ((sorted_source input c).refusal ≡ Some fault)
+
+-- no unit of the file of this input is refused
+abbrev pub IsAcceptedWhole : ℕ → InputRest → Type 0
+IsAcceptedWhole input c = (with_input input (units_from None 0 c)).refusal ≡ None
 
 -- why the file of this input isn't loaded: memory ran out, or its units end with this refusal
 abbrev pub StopsLoading : ℕ → InputRest → Fault → Type 0

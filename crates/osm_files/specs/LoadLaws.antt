@@ -8,7 +8,7 @@ use Rattle.o5_codec.specs.declared.reason.O5Reason.TheVariants as o5
 use Rattle.osm_files.specs.declared.reason.Reason.{Reason}
 use Rattle.osm_files.specs.declared.reason.Reason.TheVariants.{Opl, O5, BadHeader, Unsorted, NoEnd, AfterEnd, TooLong}
 use Rattle.osm_files.specs.declared.reason.Reason.TheVariants.{ReadFault, WriteFault, Memory, Failed}
-use Rattle.osm_files.specs.Input.{InputRest, whole_input}
+use Rattle.osm_files.specs.Input.{whole_input, failed_after}
 use Rattle.osm_files.specs.Stream.{Verdict, verdict_at}
 use Rattle.osm_files.specs.Units.{units, start_of}
 use Rattle.osm_files.specs.Verdict.{file_units, verdict, verdict_sorted}
@@ -31,19 +31,16 @@ IsFaultyWhole bytes v = (close : Verdict) → (units (Some close) (start_of byte
 abbrev pub NoneFaultyWhole : List ℕ → Type 0
 NoneFaultyWhole bytes = (close : Verdict) → (units (Some close) (start_of bytes) 0 bytes).refusal ≡ Some close
 
--- these bytes, and an error after them
-abbrev pub broken_after : List ℕ → InputRest
-broken_after bytes = record { bytes = bytes; broken = true }
-
--- An input with an error after its bytes is refused with the verdict of the bytes if they are 2^62 or more, or if they
--- have a whole faulty unit. Otherwise it is refused for the error, at the number of its bytes.
-abbrev pub BrokenInputsAreRefused : Type 0
-BrokenInputsAreRefused = (bytes : List ℕ) →
-    (2 ^ 62 ≤ length bytes × ((units_from None 0 (broken_after bytes)).refusal ≡ verdict bytes))
+-- An input that is refused at its end, for an error or a missing end, is refused with the verdict of the bytes if they
+-- are 2^62 or more, or if they have a whole faulty unit. Otherwise the refusal is that of its end, at the number of its
+-- bytes.
+abbrev pub FailedInputsAreRefused : Type 0
+FailedInputsAreRefused = (reason : Reason) (bytes : List ℕ) →
+    (2 ^ 62 ≤ length bytes × ((units_from None 0 (failed_after reason bytes)).refusal ≡ verdict bytes))
     ⊎ ((v : Verdict) × length bytes < 2 ^ 62 × IsFaultyWhole bytes v × (verdict bytes ≡ Some v)
-    × ((units_from None 0 (broken_after bytes)).refusal ≡ Some v))
+    × ((units_from None 0 (failed_after reason bytes)).refusal ≡ Some v))
     ⊎ (length bytes < 2 ^ 62 × NoneFaultyWhole bytes
-    × ((units_from None 0 (broken_after bytes)).refusal ≡ Some (verdict_at (length bytes) ReadFault)))
+    × ((units_from None 0 (failed_after reason bytes)).refusal ≡ Some (verdict_at (length bytes) reason)))
 
 -- can a verdict have this reason, without regard to order? Memory, Failed, ReadFault and WriteFault are reasons of no
 -- verdict

@@ -5,36 +5,46 @@ use Rattle.std.specs.Prelude.{if◌then◌else◌}
 use Rattle.osm_files.specs.declared.fault.Fault.{Fault}
 use Rattle.osm_files.specs.declared.reason.Reason.{Reason}
 use Rattle.osm_files.specs.declared.reason.Reason.TheVariants.{ReadFault, Memory}
+use Rattle.osm_files.specs.declared.end_rule.EndRule.TheVariants as rule
+use Rattle.osm_files.specs.declared.end_rule.EndTest.{EndTest}
+use Rattle.osm_files.specs.EndRule.{new_test, cut_if, by_test, lacks_end}
 use Rattle.osm_files.specs.declared.unit.ReadUnit.{ReadUnit}
 use Rattle.osm_files.specs.Fault.{memory_fault, failed_fault}
-use Rattle.osm_files.specs.Input.{InputRest, whole_input as all_of, with_front, Explained, GivesOne}
+use Rattle.osm_files.specs.Input.{InputRest, whole_input as all_of, broken_input, with_front, Explained, GivesOne}
 use Rattle.osm_files.specs.Stream.{Verdict, verdict_at, Placed, SourceRest, end_refused}
 use Rattle.osm_files.specs.Units.{FileStateData, units, unit, unit_at, start_of}
 use Rattle.osm_files.specs.Verdict.{length_limit, too_long_verdict}
 
 -- The position of a reading: the number of its input, and the offset in the file of the first byte held; the bytes
 -- held, and the rest after them, as the reader that gives it or as its bytes; the stage of the reading, which isn't
--- known before the first byte; whether the input has ended, and whether a call was refused.
+-- known before the first byte; the test of its end, after the bytes that were read; whether the input has ended, and
+-- whether a call was refused.
 pub record Position (C : Type 0) : Type 0 where
   pub input : ℕ
   pub offset : ℕ
   pub held : List ℕ
   pub rest : C
   pub stage : Option FileStateData
+  pub end : EndTest
   pub ended : Bool
   pub failed : Bool
 
--- the position in an input before its first byte
-abbrev pub at_start : {C : Type 0} → ℕ → C → Position C
-at_start input rest = record {
+-- the position in an input before its first byte, with this test of its end
+abbrev pub at_start_with : {C : Type 0} → EndTest → ℕ → C → Position C
+at_start_with end input rest = record {
   input = input;
   offset = 0;
   held = [];
   rest = rest;
   stage = None;
+  end = end;
   ended = false;
   failed = false;
 }
+
+-- without a rule for the end
+abbrev pub at_start : {C : Type 0} → ℕ → C → Position C
+at_start = at_start_with (new_test rule.Any)
 
 -- a position with the rest of its bytes, if they are known
 abbrev pub KnownPosition : Type 0
@@ -48,6 +58,7 @@ with_rest p c = record {
   held = p.held;
   rest = Some c;
   stage = p.stage;
+  end = p.end;
   ended =
       p.ended;
   failed = p.failed;
@@ -60,9 +71,10 @@ abbrev pub Between : {R : Type 0} → (R → InputRest → Type 0) → Position 
 Between can p q step = Explained (can p.rest) (can q.rest)
     (λ earlier later. step (with_rest p earlier) (with_rest q later))
 
--- the bytes from the position's offset on, if they are known
+-- the bytes from the position's offset on, if they are known; they are refused at their end if it is missing
 abbrev pub rest_of_bytes : KnownPosition → Option InputRest
-rest_of_bytes p = if p.ended then Some (all_of p.held) else option_map (with_front p.held) p.rest
+rest_of_bytes p = if p.ended then Some (cut_if (lacks_end p.end) (all_of p.held))
+    else option_map (λ c. with_front p.held (by_test p.end c)) p.rest
 
 -- the stage, or the one at which these bytes begin
 abbrev pub state_or_start : Option FileStateData → List ℕ → FileStateData
@@ -70,11 +82,11 @@ state_or_start None bytes = start_of bytes
 state_or_start (Some stage) bytes = stage
 
 -- the verdict that closes a file with these bytes from an offset on, if it isn't closed by its own end: it is too long,
--- or an error follows
+-- or it is refused at its end
 abbrev pub closing_verdict : ℕ → InputRest → Option Verdict
 closing_verdict offset c =
     if nat_lt (offset + length c.bytes) length_limit
-    then (if c.broken then Some (verdict_at (offset + length c.bytes) ReadFault) else None)
+    then option_map (verdict_at (offset + length c.bytes)) c.failure
     else Some too_long_verdict
 
 -- the bytes that count: those below the limit
@@ -152,7 +164,7 @@ FindsUnit p (Err reason) q = (reason ≡ Memory)
 -- an error follows the bytes held, or they are all that may be read and one more follows
 abbrev pub Halts : KnownPosition → InputRest → Fault → Type 0
 Halts p c fault =
-    ((c ≡ record { bytes = p.held; broken = true })
+    ((c ≡ broken_input p.held)
     × (fault ≡ fault_of p.input (verdict_at (p.offset + length p.held) ReadFault)))
     ⊎ ((p.offset + length p.held + 1 ≡ 2 ^ 62) × ((b : ℕ) × (more : List ℕ) × (c.bytes ≡ p.held ++ b ∷ more))
     × (fault ≡ fault_of p.input too_long_verdict))

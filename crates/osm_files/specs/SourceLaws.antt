@@ -1,16 +1,20 @@
 -- The meaning of the source of a file, in terms of sets and verdicts.
-use Rattle.std.specs.Prelude.{◌≡◌, ◌⊎◌, ◌↔◌, ℕ, ◌<◌, ◌≤◌, ◌^◌, nat_lt, List, ◌++◌, length, filter, Option, Some, None}
+use Rattle.std.specs.Prelude.{true, ◌≡◌, ◌⊎◌, ◌↔◌, ℕ, ◌<◌, ◌≤◌, ◌^◌, nat_lt, List, ◌++◌, length, filter, Option, Some}
+use Rattle.std.specs.Prelude.{None}
 use Rattle.std.specs.Prelude.{option_map}
 use Rattle.osm_model.specs.Data.{VersionData}
 use Rattle.osm_model.specs.Order.{version_cmp}
 use Rattle.osm_model.specs.Sets.{to_list, from_list}
 use Rattle.osm_model.specs.VersionSet.{VersionSet}
 use Rattle.osm_files.specs.declared.fault.Fault.{Fault}
-use Rattle.osm_files.specs.declared.reason.Reason.TheVariants.{ReadFault}
-use Rattle.osm_files.specs.Groups.{FileCanGive, to_ascending, new_source, sorted_source}
+use Rattle.osm_files.specs.declared.reason.Reason.{Reason}
+use Rattle.osm_files.specs.declared.end_rule.EndRule.{EndRule}
+use Rattle.osm_files.specs.EndRule.{ends_well, by_rule}
+use Rattle.osm_files.specs.Stream.{SourceRest}
+use Rattle.osm_files.specs.Groups.{ended_source, FileCanGive, to_ascending, new_source, sorted_source}
 use Rattle.osm_files.specs.Held.{HoldsSorted}
-use Rattle.osm_files.specs.LoadLaws.{IsFaultyWhole, broken_after}
-use Rattle.osm_files.specs.Input.{InputRest, GivesOne, whole_input as all_of}
+use Rattle.osm_files.specs.LoadLaws.{IsFaultyWhole}
+use Rattle.osm_files.specs.Input.{InputRest, GivesOne, whole_input as all_of, failed_after}
 use Rattle.osm_files.specs.Position.{fault_of, units_from}
 use Rattle.osm_files.specs.Source.{Ascends}
 use Rattle.osm_files.specs.Stream.{Verdict, verdict_at}
@@ -47,18 +51,18 @@ verdict_within close bytes = let us = units (Some close) (start_of bytes) 0 byte
 abbrev pub IsFaultyWithin : List ℕ → Verdict → Type 0
 IsFaultyWithin bytes fault = (close : Verdict) → verdict_within close bytes ≡ Some fault
 
--- if an error follows the bytes, their source ends with the verdict of the whole units in them, or with the error if
--- none of these units is faulty
-abbrev pub BrokenSourceEnds : Type 0
-BrokenSourceEnds =
-    (input : ℕ) (bytes : List ℕ) → length bytes < 2 ^ 62 →
-    (sorted_source input (broken_after bytes)).refusal
-    ≡ option_map (fault_of input) (verdict_within (verdict_at (length bytes) ReadFault) bytes)
+-- if the bytes are refused at their end, for an error or a missing end, their source ends with the verdict of the whole
+-- units in them, or with the refusal of the end if none of these units is faulty
+abbrev pub FailedSourceEnds : Type 0
+FailedSourceEnds =
+    (reason : Reason) (input : ℕ) (bytes : List ℕ) → length bytes < 2 ^ 62 →
+    (sorted_source input (failed_after reason bytes)).refusal
+    ≡ option_map (fault_of input) (verdict_within (verdict_at (length bytes) reason) bytes)
 
--- the source of 2^62 bytes or more gives the same, whether an error or the end of input follows them
+-- the source of 2^62 bytes or more gives the same, whether they are refused at their end or not
 abbrev pub LongSourceEnds : Type 0
-LongSourceEnds = (input : ℕ) (bytes : List ℕ) → 2 ^ 62 ≤ length bytes →
-    sorted_source input (broken_after bytes) ≡ sorted_source input (all_of bytes)
+LongSourceEnds = (reason : Reason) (input : ℕ) (bytes : List ℕ) → 2 ^ 62 ≤ length bytes →
+    sorted_source input (failed_after reason bytes) ≡ sorted_source input (all_of bytes)
 
 -- either some bytes have a whole faulty unit, and their verdict on order is the same whatever closes them; or their
 -- verdict on order is the one that closes them
@@ -91,6 +95,18 @@ groups_before_last versions = filter (λ v. is_below_last v versions) versions
 -- the key groups before the last one that began before this offset, ascending, each version once
 abbrev pub groups_before : ℕ → InputRest → List VersionData
 groups_before offset c = to_ascending (groups_before_last (versions_before offset c))
+
+-- Each list that the source of a file with a rule for its end can give is that of an input that has to end so.
+abbrev pub EndedSourceGives : {R : Type 0} → (R → InputRest → Type 0) → Type 0
+EndedSourceGives {R = R} can = (end : EndRule) (input : ℕ) (reader : R) (still : SourceRest VersionData Fault) →
+    FileCanGive can (ended_source end input reader) still
+    → GivesOne (can reader) (λ c. still ≡ sorted_source input (by_rule end c))
+
+-- It can give a whole list only if the file ends as the rule says.
+abbrev pub EndedSourceEndsWell : {R : Type 0} → (R → InputRest → Type 0) → Type 0
+EndedSourceEndsWell {R = R} can = (end : EndRule) (input : ℕ) (reader : R) (still : SourceRest VersionData Fault) →
+    FileCanGive can (ended_source end input reader) still → still.refusal ≡ None
+    → GivesOne (can reader) (λ c. (ends_well end c.bytes ≡ true) × (still ≡ sorted_source input c))
 
 -- the source of a faulty input gives the key groups before the last one that began before the fault, and then the fault
 abbrev pub FaultyInputGivesTheGroupsBefore : Type 0

@@ -1,5 +1,5 @@
 //! Writers and outputs whose bytes may be removed, so that a run can write them again.
-ghost use Rattle.std.specs.Prelude.{◌≡◌, false, Bool, OnOk};
+ghost use Rattle.std.specs.Prelude.{◌≡◌, false, true, Bool, OnOk, OnErr};
 ghost use Rattle.osm_files.specs.Clear.{IsClearedIfKnown, IsCleared};
 
 use crate::input::Broken;
@@ -66,10 +66,11 @@ pub trait ClearOutput: Output {
     ///
     /// # Errors
     ///
-    /// `Broken` if the output fails. Then any of the bytes may have been removed.
+    /// `Broken` if the output fails. Then it has failed, and any of the bytes may have been removed.
     fn clear(&mut self) -> Result<(), Broken>
         ensures cleared { OnOk result (IsCleared (Self.holds self.old) (Self.holds self.new)) }
-        ensures good { OnOk result (Self.failed self.new ≡ false) };
+        ensures good { OnOk result (Self.failed self.new ≡ false) }
+        ensures failed { OnErr result (Self.failed self.new ≡ true) };
 }
 
 #[cfg(test)]

@@ -125,10 +125,11 @@ pub fn inputs_are_files()
     ensures { loading.InputsAreFiles }
 {}
 
-/// An input that fails is refused with the verdict of its bytes if they have a whole faulty unit, or if they are 2^62
-/// or more. Otherwise it is refused as ReadFault at the number of its bytes.
-pub fn broken_inputs_are_refused()
-    ensures { loading.BrokenInputsAreRefused }
+/// An input that is refused at its end, because it fails or its end is missing, has the verdict of its bytes if they
+/// have a whole faulty unit, or if they are 2^62 or more. Otherwise the refusal of its end is at the number of its
+/// bytes.
+pub fn failed_inputs_are_refused()
+    ensures { loading.FailedInputsAreRefused }
 {}
 
 /// The reason of a verdict is never Memory, Failed, ReadFault or WriteFault. Only a verdict on order may be Unsorted.
@@ -161,13 +162,13 @@ pub fn whole_source_is_held()
     ensures { source.WholeSourceIsHeld }
 {}
 
-/// If an error follows some bytes, their source ends with the first whole faulty unit, or with the error if there is
-/// none.
-pub fn broken_source_ends()
-    ensures { source.BrokenSourceEnds }
+/// If some bytes are refused at their end, because of an error or a missing end, their source ends with the first whole
+/// faulty unit, or with the refusal of the end if there is none.
+pub fn failed_source_ends()
+    ensures { source.FailedSourceEnds }
 {}
 
-/// The source of 2^62 bytes or more gives the same, whether an error or the end of input follows them.
+/// The source of 2^62 bytes or more gives the same, whether they are refused at their end or not.
 pub fn long_source_ends()
     ensures { source.LongSourceEnds }
 {}
@@ -205,4 +206,14 @@ pub fn refused_source_gives_the_groups_before<R: Input>(_reader: &R)
 /// one that began before the first fault, and then that fault, in terms of the formats' grammars.
 pub fn sources_give()
     ensures { fault.SourcesGive }
+{}
+
+/// Each list that the source of a file with a rule for its end can give is that of an input that has to end so.
+pub fn ended_source_gives<R: Input>(_reader: &R)
+    ensures { source.EndedSourceGives R.can_give }
+{}
+
+/// The source of a file with a rule for its end can give a whole list only if the file ends as the rule says.
+pub fn ended_source_ends_well<R: Input>(_reader: &R)
+    ensures { source.EndedSourceEndsWell R.can_give }
 {}

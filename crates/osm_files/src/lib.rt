@@ -3,7 +3,7 @@
 #![tactic(auto)]
 
 mod clear;
-mod end_mark;
+mod end_rule;
 mod extent;
 mod fault;
 mod file_input;
@@ -32,12 +32,10 @@ mod sorted_run;
 mod source;
 mod split_file;
 mod unit;
-mod whole_file;
-mod whole_lines;
 mod write;
 
 pub use clear::{Clear, ClearOutput};
-pub use end_mark::EndMarked;
+pub use end_rule::{EndRule, lacks_end_of_file};
 pub use extent::{Extent, FramedExtent};
 pub use fault::{Fault, LENGTH_LIMIT};
 pub use file_input::FileInput;
@@ -46,7 +44,7 @@ pub use format::{FORMAT_NAMES, Format};
 pub use history_source::HistorySource;
 pub use input::{Broken, FromRead, Input, SliceIn};
 pub use lines::{first_version, line_start};
-pub use load::{Loaded, load_any};
+pub use load::{Loaded, find_fault, load_any, load_ended};
 pub use o5::O5_START;
 pub use output::{Output, ToWrite, VecOut};
 pub use read_at::{FromFile, ReadAt};
@@ -56,8 +54,6 @@ pub use sink::{Sink, write_history};
 pub use sorted_run::{BytesAtSplit, SortedRun};
 pub use source::{FileSource, Source};
 pub use split_file::SplitFile;
-pub use whole_file::WholeFile;
-pub use whole_lines::WholeLines;
 pub use write::write_all;
 
 #[cfg(test)]

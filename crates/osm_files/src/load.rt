@@ -4,10 +4,12 @@ ghost use Rattle.osm_model.specs.Order.{version_cmp};
 ghost use Rattle.osm_model.specs.Sets.{from_list};
 ghost use Rattle.osm_files.specs.Fault.{memory_fault};
 ghost use Rattle.osm_files.specs.Input.{GivesOne};
-ghost use Rattle.osm_files.specs.Load.{IsRead, Loads, StopsLoading};
-ghost use Rattle.osm_files.specs.Position.{at_start};
+ghost use Rattle.osm_files.specs.EndRule.{by_rule, by_test};
+ghost use Rattle.osm_files.specs.Load.{IsAcceptedWhole, IsRead, Loads, StopsLoading};
+ghost use Rattle.osm_files.specs.Position.{at_start_with};
 ghost use Rattle.osm_files.specs.Verdict.{is_below_last};
 
+use crate::end_rule::EndRule;
 use crate::fault::Fault;
 use crate::format::Format;
 use crate::input::Input;
@@ -36,7 +38,25 @@ pub fn load_any<R: Input + Drop>(alloc: Global, input: usize, reader: R) -> Resu
     ensures loaded { IfOk result (λ loaded. GivesOne (R.can_give reader) (λ c. Loads c loaded)) }
     ensures refused { IfErr result (λ fault. GivesOne (R.can_give reader) (λ c. StopsLoading input c fault)) }
 {
-    let mut reading = Reading::new(alloc, input, reader);
+    load_ended(alloc, input, EndRule::Any, reader)
+}
+
+/// Loads a file as [`load_any`] does, which has to end as `end` requires.
+///
+/// # Errors
+///
+/// Those of [`load_any`]; or `NoEnd` at the length of the file if the end is missing and no whole unit is faulty.
+pub fn load_ended<R: Input + Drop>(
+    alloc: Global,
+    input: usize,
+    end: EndRule,
+    reader: R,
+) -> Result<Loaded, Fault>
+    ensures loaded { IfOk result (λ loaded. GivesOne (R.can_give reader) (λ c. Loads (by_rule end c) loaded)) }
+    ensures refused { IfErr result (λ fault.
+        GivesOne (R.can_give reader) (λ c. StopsLoading input (by_rule end c) fault)) }
+{
+    let mut reading = Reading::new(alloc, input, end, reader);
     let mut versions: Vec<Version> = Vec::new(alloc);
     let read = read_versions(&mut reading, &mut versions);
     drop(reading);
@@ -51,12 +71,12 @@ fn read_versions<R: Input>(
     reading: &mut Reading<R>,
     versions: &mut Vec<Version>,
 ) -> Result<(Format, bool), Fault>
-    requires begins { reading.old ≡ at_start reading.old.input reading.old.rest }
+    requires begins { reading.old ≡ at_start_with reading.old.end reading.old.input reading.old.rest }
     requires empty { versions.old.items ≡ [] }
     ensures read { IfOk result (λ read. GivesOne (R.can_give reading.old.rest) (λ c.
-        IsRead reading.old.input c versions.new.items read.0 read.1)) }
+        IsRead reading.old.input (by_test reading.old.end c) versions.new.items read.0 read.1)) }
     ensures refused { IfErr result (λ fault. GivesOne (R.can_give reading.old.rest) (λ c.
-        StopsLoading reading.old.input c fault)) }
+        StopsLoading reading.old.input (by_test reading.old.end c) fault)) }
 {
     let format = reading.format()?;
     let mut sorted = true;
@@ -65,6 +85,44 @@ fn read_versions<R: Input>(
             return Ok((format, sorted));
         };
         sorted = add(versions, sorted, unit.version)?;
+    }
+}
+
+/// Reads the file that `reader` gives, in any format and with its versions in any order, up to its first fault. No
+/// version is kept. The file has to end as `end` requires. `input` is the file's number.
+///
+/// # Errors
+///
+/// Those of [`load_ended`].
+pub fn find_fault<R: Input + Drop>(
+    alloc: Global,
+    input: usize,
+    end: EndRule,
+    reader: R,
+) -> Result<(), Fault>
+    ensures whole { OnOk result (GivesOne (R.can_give reader) (λ c. IsAcceptedWhole input (by_rule end c))) }
+    ensures refused { IfErr result (λ fault.
+        GivesOne (R.can_give reader) (λ c. StopsLoading input (by_rule end c) fault)) }
+{
+    let mut reading = Reading::new(alloc, input, end, reader);
+    let read = read_units(&mut reading);
+    drop(reading);
+    read
+}
+
+/// Reads all units of a file.
+fn read_units<R: Input>(reading: &mut Reading<R>) -> Result<(), Fault>
+    requires begins { reading.old ≡ at_start_with reading.old.end reading.old.input reading.old.rest }
+    ensures whole { OnOk result (GivesOne (R.can_give reading.old.rest) (λ c.
+        IsAcceptedWhole reading.old.input (by_test reading.old.end c))) }
+    ensures refused { IfErr result (λ fault. GivesOne (R.can_give reading.old.rest) (λ c.
+        StopsLoading reading.old.input (by_test reading.old.end c) fault)) }
+{
+    'units: loop {
+        let Some(unit) = reading.next()? else {
+            return Ok(());
+        };
+        drop(unit);
     }
 }
 

@@ -8,6 +8,8 @@
 ghost use Rattle.std.specs.Prelude.{◌≡◌, ◌+◌, ◌<◌, ◌≤◌, ◌^◌, ◌⊎◌, true, false, None, Some, Ok, Err, []};
 ghost use Rattle.std.specs.Prelude.{length, drop, take, option_map};
 ghost use Rattle.std.specs.Prelude.{is_err, IfOk, IfErr, OnOk, OnErr, IsSome, if◌then◌else◌};
+ghost use Rattle.osm_files.specs.EndRule.{new_test, lacks_end};
+ghost use Rattle.osm_files.specs.declared.end_rule.EndRule.TheVariants as rule;
 ghost use Rattle.osm_files.specs.Fault.{failed_fault, fault_at};
 ghost use Rattle.osm_files.specs.Units as spec;
 ghost use Rattle.osm_files.specs.Reading.{Finds, FindsLast};
@@ -17,6 +19,7 @@ ghost use Rattle.osm_files.specs.declared.format.Format.TheVariants.{O5m, O5c};
 ghost use Rattle.osm_files.specs.Stream.{new_placed};
 ghost use Rattle.osm_files.specs.Position.{Between, HasRead, StopsAt, FindsUnit, with_state, state_at, units_left};
 
+use crate::end_rule::{EndRule, EndTest};
 use crate::fault::{Fault, LENGTH_LIMIT};
 use crate::format::Format;
 use crate::input::Input;
@@ -42,6 +45,8 @@ pub(crate) struct Reading<R: Input> {
     offset: u64,
     /// The stage of the reading; `None` before the first byte, which determines the grammar.
     stage: Option<FileState>,
+    /// Whether the bytes that came end as the rule says.
+    end: EndTest,
     ended: bool,
     failed: bool,
 }
@@ -59,6 +64,7 @@ impl<R: Input> Model for Reading<R> {
       held = r.read_buffer;
       rest = r.reader;
       stage = option_map state_data_of r.stage;
+      end = r.end;
       ended = r.ended;
       failed = r.failed;
     } };
@@ -68,14 +74,15 @@ impl<R: Input> Model for Reading<R> {
 }
 
 impl<R: Input> Reading<R> {
-    /// A reading at the start of the input with the number `input`.
-    pub(crate) fn new(alloc: Global, input: usize, reader: R) -> Reading<R>
+    /// A reading at the start of the input with the number `input`, which has to end as `end` says.
+    pub(crate) fn new(alloc: Global, input: usize, end: EndRule, reader: R) -> Reading<R>
         ensures { result ≡ record {
           input = input;
           offset = 0;
           held = [];
           rest = reader;
           stage = None;
+          end = new_test end;
           ended = false;
           failed = false;
         } }
@@ -87,6 +94,7 @@ impl<R: Input> Reading<R> {
             read_buffer: ReadBuffer::new(alloc),
             offset: 0,
             stage: None,
+            end: EndTest::new(end),
             ended: false,
             failed: false,
         }
@@ -101,11 +109,12 @@ impl<R: Input> Reading<R> {
           held = [];
           rest = reader;
           stage = Some spec.InOpl;
+          end = new_test rule.Any;
           ended = false;
           failed = false;
         } }
     {
-        let mut lines = Reading::new(alloc, input, reader);
+        let mut lines = Reading::new(alloc, input, EndRule::Any, reader);
         lines.offset = offset;
         lines.stage = Some(FileState::Lines(LineReader::new(alloc)));
         lines
@@ -136,7 +145,8 @@ impl<R: Input> Reading<R> {
         ensures refused { OnErr result (self.new.failed ≡ true) }
         ensures input { self.new.input ≡ self.old.input }
     {
-        let read = self.offset + self.read_buffer.len() as u64;
+        let held = self.read_buffer.len();
+        let read = self.offset + held as u64;
         let room = LENGTH_LIMIT - 1 - read;
         if room == 0 {
             return self.end_at_limit(read);
@@ -146,7 +156,10 @@ impl<R: Input> Reading<R> {
                 self.ended = true;
                 Ok(())
             }
-            Ok(_) => Ok(()),
+            Ok(_) => {
+                self.end = self.end.after(&self.read_buffer.as_slice()[held..]);
+                Ok(())
+            }
             Err(reason) => Err(self.refuse(read, reason)),
         }
     }
@@ -245,10 +258,12 @@ impl<R: Input> Reading<R> {
         }
     }
 
-    /// Passes the last bytes of an ended input, and returns their version, if no unit is whole.
-    fn finish_input(&mut self) -> Result<Option<Placed>, Fault>
+    /// Passes the last bytes of an ended input, and returns their version, if no unit is whole. The input ends as its
+    /// rule says.
+    fn finish_last(&mut self) -> Result<Option<Placed>, Fault>
         requires good { self.old.failed ≡ false }
         requires ended { self.old.ended ≡ true }
+        requires uncut { lacks_end self.old.end ≡ false }
         requires seen { self.old.stage ≡ None → self.old.held ≡ [] }
         requires nothing { spec.unit_at (state_at self.old) self.old.held ≡ None }
         requires bound { self.old.offset + length self.old.held < 2 ^ 62 }
@@ -265,6 +280,26 @@ impl<R: Input> Reading<R> {
             }
             Err(reason) => Err(self.refuse(self.offset, reason)),
         }
+    }
+
+    /// Passes the last bytes of an ended input, and returns their version, if no unit is whole.
+    fn finish_input(&mut self) -> Result<Option<Placed>, Fault>
+        requires good { self.old.failed ≡ false }
+        requires ended { self.old.ended ≡ true }
+        requires seen { self.old.stage ≡ None → self.old.held ≡ [] }
+        requires nothing { spec.unit_at (state_at self.old) self.old.held ≡ None }
+        requires bound { self.old.offset + length self.old.held < 2 ^ 62 }
+        ensures step { StepsOn R.can_give self.old result self.new }
+        ensures failed { self.new.failed ≡ is_err result }
+        ensures fewer { IfOk result (λ given. IsSome given → units_left self.new < units_left self.old) }
+        ensures onward { OnOk result (self.old.offset ≤ self.new.offset) }
+        ensures input { self.new.input ≡ self.old.input }
+    {
+        if self.end.lacks_end() {
+            let length = self.offset + self.read_buffer.len() as u64;
+            return Err(self.refuse(length, Reason::NoEnd));
+        }
+        self.finish_last()
     }
 
     /// The next version; `None` at the end and ever after.

@@ -15,10 +15,12 @@ ghost use Rattle.osm_files.specs.Input.{GivesOne};
 ghost use Rattle.osm_files.specs.Stream.{SourceRest};
 ghost use Rattle.osm_files.specs.Source.{Ascends, SourceSteps};
 ghost use Rattle.osm_files.specs.Position.{units_left};
-ghost use Rattle.osm_files.specs.Groups.{new_source, with_group, versions_left, IsGroup, BeginsOn};
+ghost use Rattle.osm_files.specs.Groups.{new_source, ended_source, with_group, versions_left, IsGroup, BeginsOn};
 ghost use Rattle.osm_files.specs.Groups.{FileSteps, FileCanGive, given_at, known_or_whole, one_given, file_ascends};
+ghost use Rattle.osm_files.specs.EndRule.{by_rule};
 ghost use Rattle.osm_files.specs.Load.{Opens, StopsOpening};
 
+use crate::end_rule::EndRule;
 use crate::fault::Fault;
 use crate::format::Format;
 use crate::group::Group;
@@ -117,15 +119,33 @@ impl<R: Input> FileSource<R> {
         ensures opened { IfOk result (λ s. s ≡ new_source input reader) }
         ensures memory { IfErr result (λ fault. fault ≡ memory_fault) }
     {
+        FileSource::ended(alloc, input, EndRule::Any, reader)
+    }
+
+    /// A source as [`FileSource::new`] makes it, of a file that has to end as `end` requires. If the end is missing,
+    /// the source is refused as `NoEnd` at the file's length, unless a whole unit is faulty or out of order.
+    ///
+    /// # Errors
+    ///
+    /// Only out of memory.
+    pub fn ended(
+        alloc: Global,
+        input: usize,
+        end: EndRule,
+        reader: R,
+    ) -> Result<FileSource<R>, Fault>
+        ensures opened { IfOk result (λ s. s ≡ ended_source end input reader) }
+        ensures memory { IfErr result (λ fault. fault ≡ memory_fault) }
+    {
         Ok(FileSource {
             alloc,
-            units: Reading::new(alloc, input, reader),
+            units: Reading::new(alloc, input, end, reader),
             pending: None,
             ready: Vec::new(alloc).into_iter(),
         })
     }
 
-    /// A source as [`FileSource::new`] makes it, which is one of `sources` in one merge. With more sources it reads
+    /// A source as [`FileSource::ended`] makes it, which is one of `sources` in one merge. With more sources it reads
     /// fewer bytes at a time, so that the unread bytes of all of them stay in the processor's cache.
     ///
     /// # Errors
@@ -134,13 +154,14 @@ impl<R: Input> FileSource<R> {
     pub fn with_peers(
         alloc: Global,
         input: usize,
+        end: EndRule,
         reader: R,
         sources: usize,
     ) -> Result<FileSource<R>, Fault>
-        ensures opened { IfOk result (λ s. s ≡ new_source input reader) }
+        ensures opened { IfOk result (λ s. s ≡ ended_source end input reader) }
         ensures memory { IfErr result (λ fault. fault ≡ memory_fault) }
     {
-        let mut source = FileSource::new(alloc, input, reader)?;
+        let mut source = FileSource::ended(alloc, input, end, reader)?;
         let share = READ_AHEAD_TOTAL / sources.max(1);
         source.units.set_chunk_size(share.max(MIN_CHUNK));
         Ok(source)
@@ -219,17 +240,23 @@ impl<R: Input> FileSource<R> {
 }
 
 impl<R: Input + Drop> FileSource<R> {
-    /// Returns the format of a sorted file, which its first bytes determine, and a source of its versions. The call
-    /// reads those bytes, and the source still gives all versions.
+    /// Returns the format of a sorted file, which its first bytes determine, and a source of its versions. The file has
+    /// to end as `end` requires. The call reads the first bytes, and the source still gives all versions.
     ///
     /// # Errors
     ///
     /// The fault of the bytes that determine the format, or `Memory`.
-    pub fn open(alloc: Global, input: usize, reader: R) -> Result<(Format, FileSource<R>), Fault>
-        ensures opened { IfOk result (λ opened. Opens R.can_give input reader opened.0 opened.1) }
-        ensures refused { IfErr result (λ fault. GivesOne (R.can_give reader) (λ c. StopsOpening input c fault)) }
+    pub fn open(
+        alloc: Global,
+        input: usize,
+        end: EndRule,
+        reader: R,
+    ) -> Result<(Format, FileSource<R>), Fault>
+        ensures opened { IfOk result (λ opened. Opens R.can_give end input reader opened.0 opened.1) }
+        ensures refused { IfErr result (λ fault.
+            GivesOne (R.can_give reader) (λ c. StopsOpening input (by_rule end c) fault)) }
     {
-        let mut units = Reading::new(alloc, input, reader);
+        let mut units = Reading::new(alloc, input, end, reader);
         match units.format() {
             Ok(format) => {
                 let ready = Vec::new(alloc).into_iter();

@@ -12,6 +12,7 @@ pub mod FilesRefusalLaws
 pub mod FilesGoodLaws
 pub mod WayLaws
 pub mod TurnLaws
+pub mod FileEndLaws
 pub mod SlicedFileLaws
 pub mod SplitLineLaws
 pub mod LinesFromLaws

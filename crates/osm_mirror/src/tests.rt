@@ -3,7 +3,7 @@ use crate::{
     CheckReport, InputFile, Kind, Object, Outside, ReadAs, Span, read_moment, run_apply, run_check,
     run_check_sorted, run_merge, run_period_filter, run_selected, run_sort, run_time_filter,
 };
-use osm_files::{Broken, Fault, Format, Input, SliceIn, VecOut};
+use osm_files::{Broken, EndRule, Fault, Format, Input, SliceIn, VecOut};
 use osm_merge::{Counts, NoProgress, Selection};
 use std::alloc::Global;
 use std::process::Abort;
@@ -90,6 +90,7 @@ fn mixed<'a>(alloc: Global, files: &'a [&'a [u8]], mix: Mix) -> Vec<InputFile<Sl
         let _ = inputs.push(InputFile {
             reader: SliceIn::new(*file),
             read_as: mix.read_as(index),
+            end: EndRule::Any,
         });
     }
     inputs
@@ -662,6 +663,7 @@ fn joined_slice(alloc: Global, whole: &[u8], unsorted: &[u8]) -> Vec<u8> {
         let _ = inputs.push(InputFile {
             reader: SliceIn::new(file),
             read_as,
+            end: EndRule::Any,
         });
     }
     let mut out = VecOut::new(alloc);

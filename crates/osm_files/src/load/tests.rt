@@ -1,10 +1,13 @@
 //! Files in any order, loaded from inputs that end and inputs that fail.
 use crate::devices::Dripping;
+use crate::end_rule::EndRule;
 use crate::fault::Fault;
 use crate::input::SliceIn;
+use crate::load::load_ended;
 use crate::reason::Reason;
 use crate::tests::{NODE_THEN_DELETION, UNSORTED};
 use crate::texts::{loaded_text, push_fault};
+use opl_line::OplReason;
 use std::alloc::Global;
 
 /// The result of loading an input that gives `bytes` one by one, and then ends, or fails if `fails` is set.
@@ -67,5 +70,42 @@ fn failing_devices(rt: HostRuntime) {
         (b"n1 v1 x1 y1\nc5 k1", "file 3, byte 17: ReadFault\n"),
     ] {
         assert_eq!(rt; dripping_text(rt.alloc(), file, true).as_str(), text);
+    }
+}
+
+/// The refusal of an input that gives `bytes` one by one, and has to end as `end` says.
+fn refused(alloc: Global, end: EndRule, bytes: &[u8]) -> Option<(u64, Reason)> {
+    let rest = bytes;
+    match load_ended(alloc, 3, end, Dripping { rest, fails: false }) {
+        Ok(_) => None,
+        Err(fault) => Some((fault.place, fault.reason)),
+    }
+}
+
+#[test]
+fn files_end_by_their_rule(rt: HostRuntime) {
+    for (end, file, refusal) in [
+        (EndRule::Any, b"#".as_slice(), None),
+        (EndRule::LineFeed, b"", None),
+        (EndRule::LineFeed, b"#\n", None),
+        (EndRule::LineFeed, b"#", Some((1, Reason::NoEnd))),
+        (EndRule::LineFeed, b"#\r", Some((2, Reason::NoEnd))),
+        (EndRule::LineFeed, b"#\nn1 v1 x1", Some((10, Reason::NoEnd))),
+        (
+            EndRule::LineFeed,
+            b"n1 v1 x1\n#",
+            Some((0, Reason::Opl(OplReason::NoLocation))),
+        ),
+        (EndRule::Mark, b"", Some((0, Reason::NoEnd))),
+        (EndRule::Mark, b"# end", Some((5, Reason::NoEnd))),
+        (EndRule::Mark, b"# end\n", None),
+        (EndRule::Mark, b"#\n# end\n", None),
+        (EndRule::Mark, b"#\r# end\n", Some((8, Reason::NoEnd))),
+        (EndRule::Mark, b"#\n## end\n", Some((9, Reason::NoEnd))),
+        (EndRule::Mark, b"# end\n\n", Some((7, Reason::NoEnd))),
+        (EndRule::Mark, b"\xff\xe0\x04o5m2\xfe", None),
+        (EndRule::Mark, b"\xff\xe0\x04o5m2", Some((7, Reason::NoEnd))),
+    ] {
+        assert_eq!(rt; refused(rt.alloc(), end, file), refusal);
     }
 }

@@ -1,5 +1,6 @@
 //! Sources of small files.
 use super::FileSource;
+use crate::end_rule::EndRule;
 use crate::input::SliceIn;
 use crate::tests::{NODE_THEN_DELETION, UNSORTED};
 use crate::texts::{given_text, push_fault, push_given};
@@ -8,7 +9,7 @@ use std::alloc::Global;
 /// The versions of a source that is opened to learn the file's format, and that format.
 fn opened_text(alloc: Global, file: &[u8]) -> String {
     let mut text = String::new(alloc);
-    match FileSource::open(alloc, 2, SliceIn::new(file)) {
+    match FileSource::open(alloc, 2, EndRule::Any, SliceIn::new(file)) {
         Err(fault) => push_fault(&mut text, fault),
         Ok((format, mut source)) => {
             let _ = writeln!(text, "{}", format.name());
@@ -22,7 +23,7 @@ fn opened_text(alloc: Global, file: &[u8]) -> String {
 fn beside_text(alloc: Global, file: &[u8]) -> String {
     given_text(
         alloc,
-        FileSource::with_peers(alloc, 2, SliceIn::new(file), 500),
+        FileSource::with_peers(alloc, 2, EndRule::Any, SliceIn::new(file), 500),
     )
 }
 

@@ -33,6 +33,7 @@ type Made<'a> = Result<Command<'a>, AllocError>;
 
 /// The command that parses the arguments.
 pub(super) fn command<'a>(alloc: Global) -> Made<'a> {
+    let explain = "Explains why a file is rejected, by its reason; without one, lists the reasons";
     Command::new(alloc, "osm_hist")
         .about("Merges, cuts and checks files of OpenStreetMap histories")
         .version(VERSION)
@@ -45,9 +46,9 @@ pub(super) fn command<'a>(alloc: Global) -> Made<'a> {
         .args_conflicts_with_subcommands(true)
         .bin_name("osm_hist")?
         .arg(
-            arg!(in alloc; --explain [REASON] "Explains why a file is rejected, by its reason; without one, lists the reasons").default_missing_value(
-                ALL_REASONS,
-            ),
+            arg!(in alloc; --explain [REASON])
+                .help(explain)
+                .default_missing_value(ALL_REASONS),
         )?
         .subcommand(merge_command(alloc)?)?
         .subcommand(apply_command(alloc)?)?

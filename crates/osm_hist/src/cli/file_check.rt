@@ -5,7 +5,7 @@ use super::refusal::Refusal;
 use super::request::Request;
 use super::target::refuse_standard_output;
 use super::{Host, hint, print};
-use osm_files::{Fault, FramedExtent, ReadAt, Reason, SortedRun};
+use osm_files::{EndRule, Fault, FramedExtent, ReadAt, Reason, SortedRun};
 use osm_mirror::{
     Checked, CheckedFile, CheckedJson, EscapedOut, RefusedJson, run_tally, run_tally_sorted,
 };
@@ -13,23 +13,16 @@ use std::alloc::{AllocError, Global};
 use std::cell::Cell;
 use std::io::{IsTerminal, Read, Write};
 
-/// What is noted of the reads of a file.
+/// The number of bytes that were read of a file.
 #[derive(Drop)]
 struct Reads {
-    /// The number of bytes that were read.
     bytes: Cell<u64>,
-    /// The number of the file, if a read failed.
-    failed: Cell<Option<usize>>,
 }
 
 impl Watch for &Reads {
     fn count(&self, count: usize) {
         self.bytes
             .set(self.bytes.get().saturating_add(count as u64));
-    }
-
-    fn failed(&self) -> &Cell<Option<usize>> {
-        &self.failed
     }
 }
 
@@ -52,7 +45,6 @@ pub(super) fn check_files<I: Read + Drop, O: Write + IsTerminal, E: Write + IsTe
     for arg in &files.names {
         let reads = Reads {
             bytes: Cell::new(0),
-            failed: Cell::new(None),
         };
         let outcome = check_file(rt, request, *arg, &mut stdin, &reads);
         if let Err(refusal) = &outcome {
@@ -115,7 +107,7 @@ fn line_of(
     Ok(Some(line?))
 }
 
-/// Checks the file that `arg` names. Its reads are noted in `reads`.
+/// Checks the file that `arg` names. Its reads are counted in `reads`.
 fn check_file<'a, I: Read + Drop>(
     rt: &impl Host,
     request: &Request<'a>,
@@ -124,7 +116,7 @@ fn check_file<'a, I: Read + Drop>(
     reads: &Reads,
 ) -> Result<CheckedFile<'a>, Refusal<'a>> {
     let mut inputs = Vec::new(rt.alloc());
-    inputs.push(OpenInput::open(rt, &request.files, 0, arg, stdin, reads)?)?;
+    inputs.push(OpenInput::open(rt, &request.files, arg, stdin, reads)?)?;
     check_first(rt, inputs.as_slice(), request.sorted, reads)
 }
 
@@ -139,10 +131,12 @@ fn check_first<'a, I: Read + Drop, M: Watch>(
         return Err(Refusal::Memory(AllocError));
     };
     let checked = match &input.bytes {
-        InputBytes::Regular(file, stamp) => check_regular(alloc, file, stamp.size, sorted),
+        InputBytes::Regular(file, stamp) => check_regular(
+            alloc, file, stamp.size, input.end, sorted,
+        ),
         InputBytes::Stream(stream) => match stream.take() {
-            Some(stream) if sorted => run_tally_sorted(alloc, stream),
-            Some(stream) => run_tally(alloc, stream),
+            Some(stream) if sorted => run_tally_sorted(alloc, input.end, stream),
+            Some(stream) => run_tally(alloc, input.end, stream),
             None => Err(Fault::failed(0)),
         },
     };
@@ -157,17 +151,18 @@ fn check_first<'a, I: Read + Drop, M: Watch>(
     }
 }
 
-/// Checks a file of `size` bytes. It is held in memory only if it isn't sorted.
+/// Checks a file of `size` bytes, which has to end as `end` requires. It is held in memory only if it isn't sorted.
 fn check_regular<F: ReadAt>(
     alloc: Global,
     file: &F,
     size: u64,
+    end: EndRule,
     sorted: bool,
 ) -> Result<Checked, Fault> {
     let whole = SortedRun::whole();
-    match run_tally_sorted(alloc, FramedExtent::of_run(file, size, whole)) {
+    match run_tally_sorted(alloc, end, FramedExtent::of_run(file, size, whole)) {
         Err(fault) if fault.reason == Reason::Unsorted && !sorted => {
-            run_tally(alloc, FramedExtent::of_run(file, size, whole))
+            run_tally(alloc, end, FramedExtent::of_run(file, size, whole))
         }
         outcome => outcome,
     }

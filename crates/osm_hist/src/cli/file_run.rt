@@ -66,8 +66,8 @@ impl<'a, 'q, 'f, 'r, 'e, R: Host, E: Write + IsTerminal> Runner<'a, 'q, 'f, 'r, 
             refuse_irregular(self.rt, names)?;
         }
         let mut inputs = Vec::new(self.rt.alloc());
-        for (input, name) in names.iter().enumerate() {
-            let opened = OpenInput::open(self.rt, self.files, input, *name, stdin, &self.meter)?;
+        for name in names {
+            let opened = OpenInput::open(self.rt, self.files, *name, stdin, &self.meter)?;
             inputs.push(opened)?;
         }
         if let Target::StandardOutput = self.target {
@@ -132,6 +132,7 @@ impl<'a, 'q, 'f, 'r, 'e, R: Host, E: Write + IsTerminal> Runner<'a, 'q, 'f, 'r, 
                 shard,
                 selection: job.selection,
                 format: job.format,
+                end: self.files.end,
             };
             return run_shard(
                 alloc,
@@ -151,8 +152,8 @@ impl<'a, 'q, 'f, 'r, 'e, R: Host, E: Write + IsTerminal> Runner<'a, 'q, 'f, 'r, 
     }
 
     /// The outcome of the job, unless a file has changed since it was opened. `taken` is the number of bytes that the
-    /// output took, and the place of a `WriteFault`: the job's own place counts the bytes in the buffer, too. `error` is
-    /// the number of a write error.
+    /// output took, and the place of a `WriteFault`: the job's own place counts the bytes in the buffer, too. `error`
+    /// is the number of a write error.
     fn unless_changed<I: Read + Drop, M: Watch>(
         &self,
         inputs: &[OpenInput<'a, I, M>],
@@ -192,10 +193,10 @@ fn files_of_run<'f, I: Read + Drop, M: Watch>(
     let mut files = Vec::new(alloc);
     for input in inputs {
         match &input.bytes {
-            InputBytes::Regular(file, _) => files.push(JobFile::File(file))?,
+            InputBytes::Regular(file, _) => files.push(JobFile::File(file, input.end))?,
             InputBytes::Stream(stream) => {
                 if let Some(stream) = stream.take() {
-                    files.push(JobFile::Stream(stream))?;
+                    files.push(JobFile::Stream(stream, input.end))?;
                 }
             }
         }

@@ -1,4 +1,4 @@
-//! Inputs of commands. Their reads are watched. A file whose last line has no end or isn't the end mark may be refused.
+//! Inputs of commands, each with the rule for its end. Their reads are watched.
 ghost use Rattle.std.specs.Prelude.{◌≡◌};
 
 use super::files::{STANDARD_INPUT, Stamp, open};
@@ -7,10 +7,8 @@ use super::request::InputFiles;
 use super::target::STANDARD;
 use super::{Host, Refusal};
 use either::{Either, Left, Right};
-use osm_files::{
-    Broken, EndMarked, Fault, FromFile, FromRead, ReadAt, Reason, WholeFile, WholeLines,
-};
-use osm_mirror::{FileEnd, Meter, read_retried};
+use osm_files::{Broken, EndRule, Fault, FromFile, FromRead, ReadAt};
+use osm_mirror::{Meter, read_retried};
 use std::alloc::Global;
 use std::cell::Cell;
 use std::fs::File;
@@ -18,22 +16,15 @@ use std::io::{IsTerminal, Read, Write};
 use std::time::Clock;
 use std::{fs, io};
 
-/// Watches the reads of the inputs of a command, which are numbered from 0.
+/// Watches the reads of the inputs of a command.
 pub(super) trait Watch: Copy {
     /// Adds `count` to the bytes that were read.
     fn count(&self, count: usize);
-
-    /// The number of the input whose read failed last, if one failed.
-    fn failed(&self) -> &Cell<Option<usize>>;
 }
 
 impl<'m, 'a, C: Clock, E: Write + IsTerminal> Watch for &'m Meter<'a, C, E> {
     fn count(&self, count: usize) {
         Meter::count(*self, count);
-    }
-
-    fn failed(&self) -> &Cell<Option<usize>> {
-        &self.failed
     }
 }
 
@@ -42,20 +33,17 @@ impl<'m, 'a, C: Clock, E: Write + IsTerminal> Watch for &'m Meter<'a, C, E> {
 pub(super) struct Metered<F, M> {
     /// The file or the stream.
     inner: F,
-    /// The number of the input.
-    input: usize,
     /// What watches its reads.
     watch: M,
 }
 
 impl<F, M: Watch> Metered<F, M> {
-    /// Counts the bytes of a read, or notes that it failed.
-    fn note<X>(&self, outcome: Result<usize, X>) -> Result<usize, X>
+    /// Counts the bytes of a read.
+    fn counted<X>(&self, outcome: Result<usize, X>) -> Result<usize, X>
         ensures { result ≡ outcome }
     {
-        match &outcome {
-            Ok(count) => self.watch.count(*count),
-            Err(_) => self.watch.failed().set(Some(self.input)),
+        if let Ok(count) = &outcome {
+            self.watch.count(*count);
         }
         outcome
     }
@@ -66,7 +54,7 @@ impl<F: Read, M: Watch> Read for Metered<F, M> {
 
     fn read(&mut self, buffer: &mut [u8]) -> io::Result<usize> {
         let outcome = read_retried(&mut self.inner, buffer);
-        self.note(outcome)
+        self.counted(outcome)
     }
 }
 
@@ -81,16 +69,16 @@ impl<F: ReadAt, M: Watch> ReadAt for Metered<F, M> {
 
     fn read_at(&self, buffer: &mut [u8], offset: u64) -> Result<usize, Broken> {
         let outcome = self.inner.read_at(buffer, offset);
-        self.note(outcome)
+        self.counted(outcome)
     }
 }
 
 /// A regular file of a command.
-pub(super) type RegularInput<M: Watch> = WholeFile<Metered<FromFile<File>, M>>;
+pub(super) type RegularInput<M: Watch> = Metered<FromFile<File>, M>;
 
 /// A pipe, a device, an empty file or standard input, as a stream of a command. A file of `/proc` has bytes, though its
 /// size is 0.
-pub(super) type StreamInput<I, M> = WholeLines<EndMarked<FromRead<Metered<Either<File, I>, M>>>>;
+pub(super) type StreamInput<I, M> = FromRead<Metered<Either<File, I>, M>>;
 
 /// The bytes of an input.
 #[derive(Drop)]
@@ -102,44 +90,22 @@ pub(super) enum InputBytes<I: Read + Drop, M: Watch> {
 }
 
 impl<I: Read + Drop, M: Watch> InputBytes<I, M> {
-    /// The bytes of a file as the input number `input`. The file has this stamp if it is a regular one. An empty file
-    /// is a stream, unless `files` keeps it.
-    fn of_file(
-        file: File,
-        stamp: Option<Stamp>,
-        files: &InputFiles<'_>,
-        input: usize,
-        watch: M,
-    ) -> Result<InputBytes<I, M>, Fault> {
-        let end = files.end.of_file(stamp.is_some());
-        let Some(stamp) = stamp.filter(|stamp| stamp.size > 0 || files.keeps_empty) else {
-            return Ok(InputBytes::of_stream(Left(file), end, input, watch));
-        };
-        let inner = FromFile::new(file, stamp.size);
-        let metered = Metered {
-            inner,
-            input,
-            watch,
-        };
-        if end == FileEnd::Any {
-            return Ok(InputBytes::Regular(WholeFile::any_end(metered), stamp));
+    /// The bytes of a file, which has this stamp if it is a regular one. An empty file is a stream, unless
+    /// `keeps_empty` is set.
+    fn of_file(file: File, stamp: Option<Stamp>, keeps_empty: bool, watch: M) -> InputBytes<I, M> {
+        match stamp.filter(|stamp| stamp.size > 0 || keeps_empty) {
+            None => InputBytes::of_stream(Left(file), watch),
+            Some(stamp) => {
+                let inner = FromFile::new(file, stamp.size);
+                InputBytes::Regular(Metered { inner, watch }, stamp)
+            }
         }
-        let file = WholeFile::new(metered).map_err(|_| Fault::at(0, 0, Reason::ReadFault))?;
-        Ok(InputBytes::Regular(file, stamp))
     }
 
-    /// The bytes of a stream as the input number `input`. The stream has to end as `end` requires.
-    fn of_stream(inner: Either<File, I>, end: FileEnd, input: usize, watch: M) -> InputBytes<I, M> {
-        let stream = FromRead::new(Metered {
-            inner,
-            input,
-            watch,
-        });
-        InputBytes::Stream(Cell::new(Some(match end {
-            FileEnd::Any => WholeLines::any_end(EndMarked::any_end(stream)),
-            FileEnd::LineFeed => WholeLines::new(EndMarked::any_end(stream)),
-            FileEnd::Mark => WholeLines::any_end(EndMarked::new(stream)),
-        })))
+    /// The bytes of a stream.
+    fn of_stream(inner: Either<File, I>, watch: M) -> InputBytes<I, M> {
+        let stream = FromRead::new(Metered { inner, watch });
+        InputBytes::Stream(Cell::new(Some(stream)))
     }
 }
 
@@ -154,48 +120,49 @@ pub(super) struct OpenInput<'a, I: Read + Drop, M: Watch> {
     pub(super) bytes: InputBytes<I, M>,
     /// The stamp of the moment when it was opened, if it is a regular file: an empty one, or standard input, too.
     stamp: Option<Stamp>,
-    /// Its number.
-    input: usize,
-    /// What watches its reads.
-    watch: M,
+    /// The rule for its end.
+    pub(super) end: EndRule,
 }
 
 impl<'a, I: Read + Drop, M: Watch> OpenInput<'a, I, M> {
-    /// Opens the file that `arg` names, or standard input, which is taken from `stdin`, as the input number `input`.
-    /// `files` has the end that it must have.
+    /// Opens the file that `arg` names, or standard input, which is taken from `stdin`. `files` has the rule for its
+    /// end.
     pub(super) fn open(
         rt: &impl Host,
         files: &InputFiles<'a>,
-        input: usize,
         arg: &'a str,
         stdin: &mut Option<I>,
         watch: M,
     ) -> Result<OpenInput<'a, I, M>, Refusal<'a>> {
-        let (name, id, stamp, bytes) = if arg != STANDARD {
+        if arg != STANDARD {
             let file = open(rt, arg)?;
             // The system is asked once: a change after this moment is noticed.
             let metadata = file.metadata().ok();
             let id = metadata.as_ref().map(|metadata| FileId::of(metadata));
             let stamp = metadata.as_ref().and_then(|metadata| Stamp::of(metadata));
-            let bytes = InputBytes::of_file(file, stamp, files, input, watch).map_err(
-                |fault| Refusal::of_fault(rt.alloc(), fault, arg, None),
-            )?;
-            (arg, id, stamp, bytes)
-        } else if let Some(stream) = stdin.take() {
-            let stamp = Stamp::of_input(rt);
-            let bytes = InputBytes::of_stream(Right(stream), files.end, input, watch);
-            (STANDARD_INPUT, FileId::of_input(rt), stamp, bytes)
-        } else {
+            let end = if stamp.is_some() {
+                files.end.of_file()
+            } else {
+                files.end
+            };
+            return Ok(OpenInput {
+                name: arg,
+                id,
+                bytes: InputBytes::of_file(file, stamp, files.keeps_empty, watch),
+                stamp,
+                end,
+            });
+        }
+        let Some(stream) = stdin.take() else {
             let (name, code) = (STANDARD_INPUT, None);
             return Err(Refusal::CannotRead { name, code });
         };
         Ok(OpenInput {
-            name,
-            id,
-            bytes,
-            stamp,
-            input,
-            watch,
+            name: STANDARD_INPUT,
+            id: FileId::of_input(rt),
+            bytes: InputBytes::of_stream(Right(stream), watch),
+            stamp: Stamp::of_input(rt),
+            end: files.end,
         })
     }
 
@@ -222,7 +189,7 @@ impl<'a, I: Read + Drop, M: Watch> OpenInput<'a, I, M> {
             return Ok(());
         };
         let found = match &self.bytes {
-            InputBytes::Regular(file, _) => Stamp::of_file(file.get_ref().inner.get_ref()),
+            InputBytes::Regular(file, _) => Stamp::of_file(file.inner.get_ref()),
             InputBytes::Stream(_) if name == STANDARD_INPUT => Stamp::of_input(rt),
             InputBytes::Stream(_) => match fs::metadata(rt, name) {
                 Ok(found) if self.id == Some(FileId::of(&found)) => Stamp::of(&found),
@@ -232,18 +199,13 @@ impl<'a, I: Read + Drop, M: Watch> OpenInput<'a, I, M> {
         stamp.refuse_changed(found, name)
     }
 
-    /// The refusal of this input for `fault`. It is `NoEnd` instead of `ReadFault` if no read of the system failed:
-    /// then the last line has no end, or isn't the end mark.
+    /// The refusal of this input for `fault`.
     pub(super) fn refusal(&self, alloc: Global, fault: &Fault) -> Refusal<'a> {
-        let has_failed = self.watch.failed().get() == Some(self.input);
-        let lacks_end = fault.reason == Reason::ReadFault && !has_failed;
-        let (place, reason) = match &self.bytes {
-            InputBytes::Regular(file, stamp) if lacks_end && file.lacks_end() => {
-                (stamp.size, Reason::NoEnd)
-            }
-            InputBytes::Stream(_) if lacks_end => (fault.place, Reason::NoEnd),
-            _ => (fault.place, fault.reason),
-        };
-        Refusal::of_fault(alloc, Fault::at(0, place, reason), self.name, None)
+        Refusal::of_fault(
+            alloc,
+            Fault::at(0, fault.place, fault.reason),
+            self.name,
+            None,
+        )
     }
 }

@@ -78,6 +78,7 @@ fn run_steps<'p, O: Write>(
     out: &mut O,
 ) -> Result<PlanRun, Refusal<'p>>
     requires { NamesItsMirrors plan.now }
+    ensures { IfOk result (λ run. length run.fleet ≡ length plan.now.mirrors.items) }
 {
     let (alloc, steps) = (rt.alloc(), plan.steps.as_slice());
     refuse_overwriting(rt, name, plan.writes.as_slice())?;

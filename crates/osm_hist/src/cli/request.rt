@@ -5,8 +5,8 @@ use super::part::FileId;
 use super::target::{STANDARD, Target};
 use super::{Host, Refusal};
 use clap::ArgMatches;
-use osm_files::Format;
-use osm_mirror::{Command, FileEnd, FileRequest, FilesJob, Shard, read_names};
+use osm_files::{EndRule, Format};
+use osm_mirror::{Command, FileRequest, FilesJob, Shard, read_names};
 use std::alloc::Global;
 use std::io::Read;
 
@@ -48,7 +48,7 @@ impl<'a> Request<'a> {
         let files = InputFiles {
             names,
             list: None,
-            end: FileEnd::required(matches.get_flag("whole"), matches.get_flag("ended")),
+            end: EndRule::required(matches.get_flag("whole"), matches.get_flag("ended")),
             keeps_empty: matches.get_str("shard").is_some(),
         };
         Ok(Request {
@@ -77,7 +77,7 @@ impl<'a> Request<'a> {
         };
         // A list of lines, which has no NUL, would be read as one long name.
         let is_lines = text.contains('\n') && !text.contains('\0');
-        let must_end = is_lines || self.files.end != FileEnd::Any;
+        let must_end = is_lines || self.files.end != EndRule::Any;
         let (name, read) = (input_name(list), read_names(alloc, text, must_end));
         let names = read.map_err(|fault| Refusal::of_list(fault, name))?;
         refuse_twice(names.as_slice(), list == STANDARD)?;
@@ -173,7 +173,7 @@ pub(super) struct InputFiles<'a> {
     /// The identity of the list that has their names, if it is known.
     pub(super) list: Option<FileId>,
     /// How OPL files must end.
-    pub(super) end: FileEnd,
+    pub(super) end: EndRule,
     /// Whether an empty file is read as a regular file, and not as a stream. A file of `/proc` has bytes, though its
     /// size is 0.
     pub(super) keeps_empty: bool,

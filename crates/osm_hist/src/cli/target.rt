@@ -143,8 +143,8 @@ impl<'a> Target<'a> {
     }
 }
 
-/// Refuses standard output if it is a regular file that is an input: `list`, which has the names of files, or one of the
-/// files `names`.
+/// Refuses standard output if it is a regular file that is an input: `list`, which has the names of files, or one of
+/// the files `names`.
 pub(super) fn refuse_standard_output<'a>(
     rt: &impl Host,
     list: Option<FileId>,

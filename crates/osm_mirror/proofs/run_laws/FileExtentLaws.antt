@@ -15,6 +15,7 @@ use Rattle.osm_model.specs.VersionSet.{VersionSet}
 use Rattle.osm_model.specs.Sets.{contains, from_list, to_list}
 use Rattle.osm_model.proofs.SetLaws.{contains-from_list, contains-listed, strict-listed}
 use Rattle.osm_model.proofs.VersionLaws.{version_cmp-IsAntisymmetric}
+use Rattle.osm_files.specs.declared.reason.Reason.{Reason}
 use Rattle.osm_files.specs.declared.fault.Fault.{Fault}
 use Rattle.osm_files.specs.declared.sorted_run.SortedRun.{SortedRun}
 use Rattle.osm_files.specs.Extent.{RunCanGive}
@@ -25,7 +26,8 @@ use Rattle.osm_files.specs.Held.{HoldsSorted}
 use Rattle.osm_files.specs.SortedRun.{run_bytes, whole_run}
 use Rattle.osm_files.specs.Stream.{Verdict, end_whole, end_refused}
 use Rattle.osm_files.specs.Verdict.{verdict_sorted}
-use Rattle.osm_files.proofs.FaultyLaws.{broken_is_refused}
+use Rattle.osm_files.proofs.FailureLaws.{never_failed}
+use Rattle.osm_files.proofs.FaultyLaws.{failed_is_refused}
 use Rattle.osm_files.proofs.FileLaws.{sorted_files_are_read}
 use Rattle.osm_files.proofs.FrontLaws.{front_given}
 use Rattle.osm_files.proofs.HoldLaws.{source_gives_held, set_listed}
@@ -267,43 +269,43 @@ module _ (span : Span) (Fails : Type 0) (all : List ℕ) (extent : FileExtent) (
     set_is : (o : Outside) → o ≡ outside → PartSet span all extent set o p.held
     set_is o e = subst (λ (x : Outside). PartSet span all extent set x p.held) (sym (e ∙ outside_is)) p.is
 
-    whole_input : (c : InputRest) → RunCanGive Fails (Some all) extent.run extent.size c → c.broken ≡ false → HoldsSorted c.bytes p.held
+    whole_input : (c : InputRest) → RunCanGive Fails (Some all) extent.run extent.size c → c.failure ≡ None → HoldsSorted c.bytes p.held
     whole_input c gives unbroken =
         subst (λ b. HoldsSorted b p.held) (sym (run_given Fails all extent.run extent.size c is.size gives unbroken)) p.holds
 
     -- what a source gives is the front of what the extent holds
-    given_front : (number : ℕ) (bytes : List ℕ) (broken : Bool)
-        → RunCanGive Fails (Some all) extent.run extent.size (record { bytes = bytes; broken = broken })
+    given_front : (number : ℕ) (bytes : List ℕ) (failure : Option Reason)
+        → RunCanGive Fails (Some all) extent.run extent.size (record { bytes = bytes; failure = failure })
         → (rest : List VersionData)
-        × (to_list p.held ≡ (sorted_source number (record { bytes = bytes; broken = broken })).list ++ rest)
-    given_front number bytes true gives =
-        let front = run_front Fails all extent.run extent.size bytes gives in
-        front_given number bytes front.0 p.held (subst (λ b. HoldsSorted b p.held) front.1 p.holds)
-    given_front number bytes false gives = (
+        × (to_list p.held ≡ (sorted_source number (record { bytes = bytes; failure = failure })).list ++ rest)
+    given_front number bytes (Some reason) gives =
+        let front = run_front Fails all extent.run extent.size reason bytes gives in
+        front_given reason number bytes front.0 p.held (subst (λ b. HoldsSorted b p.held) front.1 p.holds)
+    given_front number bytes None gives = (
       [],
-      ap (λ s. s.list) (sym (source_gives_held number bytes p.held (whole_input (record { bytes = bytes; broken = false }) gives refl)))
-          ∙ sym (append-nil (sorted_source number (record { bytes = bytes; broken = false })).list),
+      ap (λ s. s.list) (sym (source_gives_held number bytes p.held (whole_input (record { bytes = bytes; failure = None }) gives refl)))
+          ∙ sym (append-nil (sorted_source number (record { bytes = bytes; failure = None })).list),
     )
 
-    dropped_is : (number : ℕ) (bytes : List ℕ) (broken : Bool) (found : VersionSet)
-        → RunCanGive Fails (Some all) extent.run extent.size (record { bytes = bytes; broken = broken }) → p.held ≡ set
-        → IsPartRead span (sorted_source number (record { bytes = bytes; broken = broken })) found
+    dropped_is : (number : ℕ) (bytes : List ℕ) (failure : Option Reason) (found : VersionSet)
+        → RunCanGive Fails (Some all) extent.run extent.size (record { bytes = bytes; failure = failure }) → p.held ≡ set
+        → IsPartRead span (sorted_source number (record { bytes = bytes; failure = failure })) found
         → found ≡ slice_of span.from span.to set
-    dropped_is number bytes broken found gives whole read =
-        let c : InputRest = record { bytes = bytes; broken = broken } in
-        let front = given_front number bytes broken gives in
+    dropped_is number bytes failure found gives whole read =
+        let c : InputRest = record { bytes = bytes; failure = failure } in
+        let front = given_front number bytes failure gives in
         ⊎_elim
         (λ ends. (
-        let unbroken : broken ≡ false = (elim broken as (λ t. (sorted_source number (record { bytes = bytes; broken = t })).refusal ≡ None
-        → t ≡ false) [
-          | true ↦ λ none. absurd (broken_is_refused number bytes none)
-          | false ↦ λ none. refl
+        let unbroken : failure ≡ None = (elim failure as (λ t. (sorted_source number (record { bytes = bytes; failure = t })).refusal
+        ≡ None → t ≡ None) [
+          | Some reason ↦ λ none. absurd (failed_is_refused reason number bytes none)
+          | None ↦ λ none. refl
         ]) ends in
         let list : (sorted_source number c).list ≡ to_list p.held =
-        ap (λ t. (sorted_source number (record { bytes = bytes; broken = t })).list) unbroken
+        ap (λ t. (sorted_source number (record { bytes = bytes; failure = t })).list) unbroken
         ∙ ap (λ s. s.list) (source_gives_held number bytes p.held
-        (whole_input (record { bytes = bytes; broken = false })
-        (subst (λ t. RunCanGive Fails (Some all) extent.run extent.size (record { bytes = bytes; broken = t })) unbroken gives) refl)) in
+        (whole_input (record { bytes = bytes; failure = None })
+        (subst (λ t. RunCanGive Fails (Some all) extent.run extent.size (record { bytes = bytes; failure = t })) unbroken gives) refl)) in
         read.slice ∙ ap (λ vs. slice_of span.from span.to (from_list {R = version_cmp} vs)) list
         ∙ ap (slice_of span.from span.to) (set_listed p.held ∙ whole)))
         (λ over. read.slice ∙ front_slice span p.held (sorted_source number c).list front.0 front.1 over
@@ -316,23 +318,21 @@ module _ (span : Span) (Fails : Type 0) (all : List ℕ) (extent : FileExtent) (
     found_is (Refused, c) found e gives slice =
         held_is_one_set c.bytes found p.held (as_held c.bytes found slice.0.file)
         (as_held c.bytes p.held (whole_input c gives slice.0.unbroken)) ∙ set_is Refused e
-    found_is (Dropped, c) found e gives slice = dropped_is slice.2 c.bytes c.broken found gives (set_is Dropped e) slice.3
-
-    unbroken_if : (b : Bool) → (b ≡ true → ⊥) → b ≡ false
-    unbroken_if true never = absurd (never refl)
-    unbroken_if false never = refl
+    found_is (Dropped, c) found e gives slice = dropped_is slice.2 c.bytes c.failure found gives (set_is Dropped e) slice.3
 
     -- the extent of a good file has the slice
     pub good_is : (Fails → ⊥) → (given : Outside × InputRest) → given.0 ≡ outside
         → RunCanGive Fails (Some all) extent.run extent.size given.1 → GivesSlice span given (slice_of span.from span.to set)
     good_is never (Refused, c) e gives =
-        let unbroken = unbroken_if c.broken (λ b. never (broken_fails Fails all extent.run extent.size c is.size gives b)) in (
+        let unbroken = never_failed c.failure
+        (λ reason failed. never (broken_fails Fails all extent.run extent.size c is.size gives reason failed).0) in (
           subst (λ (s : VersionSet). GivesSorted c s) (set_is Refused e)
               (record { unbroken = unbroken; file = whole_input c gives unbroken }),
           slices_are_within span set,
         )
     good_is never (Dropped, c) e gives =
-        let unbroken = unbroken_if c.broken (λ b. never (broken_fails Fails all extent.run extent.size c is.size gives b)) in (
+        let unbroken = never_failed c.failure
+        (λ reason failed. never (broken_fails Fails all extent.run extent.size c is.size gives reason failed).0) in (
           set,
           subst (λ (s : VersionSet). GivesSorted c s) (set_is Dropped e)
               (record { unbroken = unbroken; file = whole_input c gives unbroken }),
@@ -343,7 +343,7 @@ module _ (span : Span) (Fails : Type 0) (all : List ℕ) (extent : FileExtent) (
     none_strays : (number : ℕ) (c : InputRest) → Refused ≡ outside → RunCanGive Fails (Some all) extent.run extent.size c
         → list_any (λ v. not (is_within span.from span.to v)) (sorted_source number c).list ≡ true → ⊥
     none_strays number c e gives stray =
-        let front = given_front number c.bytes c.broken gives in
+        let front = given_front number c.bytes c.failure gives in
         none_outside span set (sorted_source number c).list front.0 (ap to_list (sym (set_is Refused e)) ∙ front.1) stray
 
     -- the extent has no verdict

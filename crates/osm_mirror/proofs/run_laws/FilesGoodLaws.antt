@@ -2,12 +2,13 @@
 use Rattle.std.proofs.Common.{◌≡◌, ◌⊎◌, inl, inr, ⊎_elim, ℕ, zero, suc, ◌+◌, ◌-◌, ◌<◌, ◌^◌, Bool, false, List, [], ◌∷◌, ◌++◌}
 use Rattle.std.proofs.Common.{length, map, Option, Some, None, IfSome, slice_get, refl, sym, ap, ◌∙◌, subst, arith}
 use Rattle.std.specs.List.{All}
-use Rattle.std.proofs.lemmas.Bool.{false≢true, false_from_ne_true}
+use Rattle.std.proofs.lemmas.Bool.{false≢true}
 use Rattle.std.proofs.lemmas.List.Elements.{All-head, All-tail}
 use Rattle.osm_model.specs.Order.{version_cmp}
 use Rattle.osm_model.specs.VersionSet.{VersionSet}
 use Rattle.osm_model.specs.Sets.{from_list}
 use Rattle.osm_model.specs.Pairwise.{Pairwise}
+use Rattle.osm_files.specs.EndRule.{by_rule}
 use Rattle.osm_files.specs.declared.fault.Fault.{Fault}
 use Rattle.osm_files.specs.declared.output.Output.{Ghosts}
 use Rattle.osm_files.specs.declared.sorted_run.SortedRun.{SortedRun}
@@ -22,6 +23,7 @@ use Rattle.osm_files.specs.Sink.{CutShort, WhyCut}
 use Rattle.osm_files.specs.Stream.{verdict_at}
 use Rattle.osm_files.specs.SortedRun.{run_bytes, whole_run}
 use Rattle.osm_files.specs.Spell.{spell}
+use Rattle.osm_files.proofs.FailureLaws.{never_failed}
 use Rattle.osm_files.proofs.FileLaws.{one_list, sorted_files_are_read}
 use Rattle.osm_files.proofs.RunBytes.{run_given}
 use Rattle.osm_files.proofs.RunOrderLaws.{broken_fails}
@@ -49,13 +51,13 @@ use Rattle.osm_mirror.proofs.run_laws.FilesRefusalLaws.{fault_found, output_foun
 use Rattle.osm_mirror.proofs.run_laws.InputRefusalLaws.{SomeRefused, refused_at, unread_refused}
 use Rattle.osm_mirror.proofs.run_laws.FilesRefusalLaws.{Found}
 use Rattle.osm_mirror.proofs.run_laws.FilesRefusalLaws.{stream_gave}
-use Rattle.osm_mirror.proofs.run_laws.FilesJobLaws.{cut, as_pairs, as_given, as_any}
+use Rattle.osm_mirror.proofs.run_laws.FilesJobLaws.{cut, as_pairs, as_given, as_any, plain_given}
 use Rattle.osm_mirror.proofs.run_laws.SourceLaws as source_laws
 use Rattle.osm_mirror.proofs.run_laws.UnionOfLaws.{union_of_one, union_of_front}
 
 -- ---- one input
 -- an input that gives the bytes of a file of this order is that file
-as_input : (order : Order) (c : InputRest) (held : VersionSet) → c.broken ≡ false → HoldsAs order c.bytes held
+as_input : (order : Order) (c : InputRest) (held : VersionSet) → c.failure ≡ None → HoldsAs order c.bytes held
     → IsFileAs (read_as_of order, c) held
 as_input Sorted c held unbroken h = record { unbroken = unbroken; file = h }
 as_input Any c held unbroken h = record { unbroken = unbroken; file = h }
@@ -97,8 +99,8 @@ module _ {I : Type 0} (gives : I → InputRest → Type 0) (Fails : Type 0) (nev
   abbrev Opens : Order → InputFile I → SortedRun → Type 0
   Opens order = OpensRun gives Fails (Some all) size order
 
-  run_unbroken : (run : SortedRun) (c : InputRest) → RunCanGive Fails (Some all) run size c → c.broken ≡ false
-  run_unbroken run c gave = false_from_ne_true c.broken (λ broken. never (broken_fails Fails all run size c long gave broken))
+  run_unbroken : (run : SortedRun) (c : InputRest) → RunCanGive Fails (Some all) run size c → c.failure ≡ None
+  run_unbroken run c gave = never_failed c.failure (λ reason failed. never (broken_fails Fails all run size c long gave reason failed).0)
 
   run_is_file : (order : Order) (run : SortedRun) (c : InputRest) (held : VersionSet) → RunCanGive Fails (Some all) run size c
       → HoldsAs order (run_bytes run all) held → IsFileAs (read_as_of order, c) held
@@ -118,7 +120,7 @@ module _ {I : Type 0} (gives : I → InputRest → Type 0) (Fails : Type 0) (nev
   whole_accepted order held (i ∷ []) (x ∷ y ∷ given) short h opens g = absurd g.1
   whole_accepted order held (i ∷ []) ((how, c) ∷ []) short h opens g =
       one_input order c held ((how, c) ∷ []) (ap (λ (x : ReadAs). (x, c) ∷ []) (sym g.0.0 ∙ opens.0.order_is))
-      (run_is_file order whole_run c held (opens.0.gives_run c g.0.1)
+      (run_is_file order whole_run c held (opens.0.gives_run c (plain_given gives i how c opens.0.end_is g.0))
       (subst (λ (bytes : List ℕ). HoldsAs order bytes held) (sym (whole_file all short)) h))
 
   -- the runs of a file, each a sorted file
@@ -142,7 +144,7 @@ module _ {I : Type 0} (gives : I → InputRest → Type 0) (Fails : Type 0) (nev
         sets = one.0 ∷ more.sets;
         files = (
           subst (λ (h : ReadAs). IsFileAs (h, c) one.0) (sym (sym g.0.0 ∙ opens.0.order_is))
-              (run_is_file Sorted run c one.0 (opens.0.gives_run c g.0.1) one.1),
+              (run_is_file Sorted run c one.0 (opens.0.gives_run c (plain_given gives i how c opens.0.end_is g.0)) one.1),
           more.files,
         );
         hold = (as_any Sorted (run_bytes run all) one.0 one.1, more.hold);
@@ -175,14 +177,14 @@ module _ {F R I : Type 0} (fails : F → Type 0) (bytes : F → Option (List ℕ
       VersionSet)
       → IsGood fails bytes can order file held → way.may_be_split ≡ false → FileFits bytes order file way
       → OpensFile fails bytes can gives file way inputs → AllGive (InputFileCanGive gives) inputs given → Accepted given held
-  file_accepted (File f) way inputs given held (never, (all, known, h)) settled fits opens g =
+  file_accepted (File f end) way inputs given held (never, (all, known, h)) settled fits opens g =
       known_accepted (fails f.now) way inputs given held all never h settled
       (subst (λ (k : Option (List ℕ)). IsWayOf order k way) known fits.0)
       (subst (λ (k : Option (List ℕ)). FitsBytes k way) known fits.1)
       (subst (λ (k : Option (List ℕ)). Pairwise (OpensRun gives (fails f.now) k way.size way.order) inputs way.runs.items) known opens) g
-  file_accepted (Stream r) way inputs given held good settled fits opens g =
-      let gave = stream_gave fails bytes can gives order r way inputs given fits opens g in
-      one_input order gave.c held given gave.only (given_as_file order gave.c held (good gave.c gave.gave))
+  file_accepted (Stream r end) way inputs given held good settled fits opens g =
+      let gave = stream_gave fails bytes can gives order r end way inputs given fits opens g in
+      one_input order (by_rule end gave.c) held given gave.only (given_as_file order (by_rule end gave.c) held (good gave.c gave.gave))
 
   -- The inputs of good files are files that hold the files' sets.
   pub files_accepted : (files : List (JobFile F R)) (ways : List FileWay) (inputs : List (InputFile I)) (given : List (ReadAs × InputRest))
@@ -223,12 +225,13 @@ module _ {F R : Type 0} (fails : F → Type 0) (bytes : F → Option (List ℕ))
 
   good_not_refused : (order : Order) (file : JobFile F R) (held : VersionSet) (fault : Fault) → IsGood fails bytes can order file held
       → IsFaultOf fails bytes can order file fault → ⊥
-  good_not_refused order (File f) held fault (never, (all, known, h)) (inl failed) = never failed.0
-  good_not_refused order (File f) held fault (never, (all, known, h)) (inr refused) =
+  good_not_refused order (File f end) held fault (never, (all, known, h)) (inl failed) = never failed.0
+  good_not_refused order (File f end) held fault (never, (all, known, h)) (inr refused) =
       bytes_not_refused order all held fault h (subst (λ (k : Option (List ℕ)). IfSome k (λ all. IsFaultOfBytes order all fault)) known
       refused)
-  good_not_refused order (Stream r) held fault good (c, gave, (input, e)) =
-      let whole = source_laws.as_given input (read_as_of order, c) held (given_as_file order c held (good c gave)) in
+  good_not_refused order (Stream r end) held fault good (c, gave, (input, e)) =
+      let whole = source_laws.as_given input (read_as_of order, by_rule end c) held
+      (given_as_file order (by_rule end c) held (good c gave)) in
       (let f : None ≡ Some (record fault { input = input }) = sym whole.0 ∙ e in cc)
 
   pub good_at : (order : Order) (files : List (JobFile F R)) (held : List VersionSet) (k : ℕ) (file : JobFile F R)

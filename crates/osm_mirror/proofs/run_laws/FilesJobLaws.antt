@@ -6,6 +6,9 @@ use Rattle.std.specs.List.{zip}
 use Rattle.osm_model.specs.VersionSet.{VersionSet}
 use Rattle.osm_model.specs.Sets.{size}
 use Rattle.osm_model.specs.Pairwise.{Pairwise}
+use Rattle.osm_files.specs.declared.end_rule.EndRule.{EndRule}
+use Rattle.osm_files.specs.declared.end_rule.EndRule.TheVariants as rule
+use Rattle.osm_files.specs.EndRule.{by_rule}
 use Rattle.osm_files.specs.declared.sorted_run.SortedRun.{SortedRun}
 use Rattle.osm_files.specs.Held.{Holds}
 use Rattle.osm_files.specs.Input.{InputRest}
@@ -139,6 +142,12 @@ known_case None P Q more h = tt
 known_case (Some all) P Q more h = more all refl h
 
 -- ---- one input
+-- What an input without a rule for its end gives, its reader gives.
+pub plain_given : {I : Type 0} (gives : I → InputRest → Type 0) (input : InputFile I) (how : ReadAs) (c : InputRest)
+    → input.end ≡ rule.Any → InputFileCanGive gives input (how, c) → gives input.reader c
+plain_given gives input how c plain (same, (given, could, is)) =
+    subst (gives input.reader) (sym (is ∙ ap (λ (e : EndRule). by_rule e given) plain)) could
+
 as_held : (order : Order) (c : InputRest) (held : VersionSet) → GivesAs (read_as_of order, c) held → HoldsAs order c.bytes held
 as_held Sorted c held h = h.file
 as_held Any c held h = h.file
@@ -178,7 +187,8 @@ module _ {I : Type 0} (gives : I → InputRest → Type 0) (Fails : Type 0) (all
   runs_hold (input ∷ inputs) (run ∷ runs) [] held opens g p = absurd g
   runs_hold (input ∷ inputs) (run ∷ runs) (x ∷ given) [] opens g p = absurd p
   runs_hold (input ∷ inputs) (run ∷ runs) ((how, c) ∷ given) (s ∷ held) opens g p = (
-    as_any order (run_bytes run all) s (run_holds input run opens.0 how c s g.0.0 g.0.1 p.0),
+    as_any order (run_bytes run all) s
+        (run_holds input run opens.0 how c s g.0.0 (plain_given gives input how c opens.0.end_is g.0) p.0),
     runs_hold inputs runs given held opens.1 g.1 p.1,
   )
 
@@ -195,7 +205,8 @@ module _ {I : Type 0} (gives : I → InputRest → Type 0) (Fails : Type 0) (all
   whole_holds (f ∷ []) run ((how, c) ∷ []) (s ∷ t ∷ held) whole opens g p = absurd p.1
   whole_holds (f ∷ []) run ((how, c) ∷ []) (s ∷ []) whole opens g p =
       subst (HoldsAs order all) (sym (union_of_one s))
-      (subst (λ (b : List ℕ). HoldsAs order b s) whole (run_holds f run opens.0 how c s g.0.0 g.0.1 p.0))
+      (subst (λ (b : List ℕ). HoldsAs order b s) whole
+      (run_holds f run opens.0 how c s g.0.0 (plain_given gives f how c opens.0.end_is g.0) p.0))
 
 -- ---- the inputs of a file
 module _ {I : Type 0} (gives : I → InputRest → Type 0) (Fails : Type 0) (way : FileWay) (order : Order) (law : SortedRunsHoldTheFile)
@@ -231,33 +242,37 @@ module _ {I : Type 0} (gives : I → InputRest → Type 0) (Fails : Type 0) (way
 module _ {F R I : Type 0} (fails : F → Type 0) (bytes : F → Option (List ℕ)) (can : R → InputRest → Type 0)
     (gives : I → InputRest → Type 0) (order : Order) where
   -- A stream as one input.
-  stream_holds : (r : R) (way : FileWay) (inputs : List (InputFile I)) (given : List (ReadAs × InputRest)) (held : List VersionSet)
-      → IsAsRequired order way → OpensFile fails bytes can gives (Stream r) way inputs → AllGive (InputFileCanGive gives) inputs given
-      → Pairwise GivesAs given held → FileHolds bytes can order (Stream r) (union_of held)
-  stream_holds r way [] given held fits (input, is, opens) g p = absurd (let e : [] ≡ input ∷ [] = is in cc)
-  stream_holds r way (x ∷ y ∷ inputs) given held fits (input, is, opens) g p =
+  stream_holds : (r : R) (end : EndRule) (way : FileWay) (inputs : List (InputFile I)) (given : List (ReadAs × InputRest))
+      (held : List VersionSet)
+      → IsAsRequired order way → OpensFile fails bytes can gives (Stream r end) way inputs → AllGive (InputFileCanGive gives) inputs given
+      → Pairwise GivesAs given held → FileHolds bytes can order (Stream r end) (union_of held)
+  stream_holds r end way [] given held fits (input, is, opens) g p = absurd (let e : [] ≡ input ∷ [] = is in cc)
+  stream_holds r end way (x ∷ y ∷ inputs) given held fits (input, is, opens) g p =
       absurd (omega (arith, ap length is))
-  stream_holds r way (x ∷ []) [] held fits opened g p = absurd g
-  stream_holds r way (x ∷ []) (y ∷ z ∷ given) held fits opened g p = absurd g.1
-  stream_holds r way (x ∷ []) ((how, c) ∷ []) [] fits opened g p = absurd p
-  stream_holds r way (x ∷ []) ((how, c) ∷ []) (s ∷ t ∷ held) fits opened g p = absurd p.1
-  stream_holds r way (x ∷ []) ((how, c) ∷ []) (s ∷ []) fits (input, is, opens) g p =
+  stream_holds r end way (x ∷ []) [] held fits opened g p = absurd g
+  stream_holds r end way (x ∷ []) (y ∷ z ∷ given) held fits opened g p = absurd g.1
+  stream_holds r end way (x ∷ []) ((how, c) ∷ []) [] fits opened g p = absurd p
+  stream_holds r end way (x ∷ []) ((how, c) ∷ []) (s ∷ t ∷ held) fits opened g p = absurd p.1
+  stream_holds r end way (x ∷ []) ((how, c) ∷ []) (s ∷ []) fits (input, is, opens) g p =
       let same : x ≡ input = (let e : x ∷ [] ≡ input ∷ [] = is in cc) in
       let order_is : how ≡ read_as_of order = sym g.0.0 ∙ ap (λ (i : InputFile I). i.read_as) same ∙ opens.order_is
-      ∙ ap read_as_of fits.1 in (
-        c,
-        opens.gives_stream c (subst (λ (i : InputFile I). gives i.reader c) same g.0.1),
-        subst (λ (t : VersionSet). GivesAs (read_as_of order, c) t) (sym (union_of_one s))
-            (subst (λ (h : ReadAs). GivesAs (h, c) s) order_is p.0),
+      ∙ ap read_as_of fits.1 in
+      let given : InputRest = g.0.1.0 in
+      let ended : c ≡ by_rule end given =
+      g.0.1.2 ∙ ap (λ (e : EndRule). by_rule e given) (ap (λ (i : InputFile I). i.end) same ∙ opens.end_is) in (
+        given,
+        opens.gives_stream given (subst (λ (i : InputFile I). gives i.reader given) same g.0.1.1),
+        subst (λ (t : VersionSet). GivesAs (read_as_of order, by_rule end given) t) (sym (union_of_one s))
+            (subst (λ (d : InputRest). GivesAs (read_as_of order, d) s) ended (subst (λ (h : ReadAs). GivesAs (h, c) s) order_is p.0)),
       )
 
   one_holds : SortedRunsHoldTheFile → (file : JobFile F R) (way : FileWay) (inputs : List (InputFile I))
       (given : List (ReadAs × InputRest)) (held : List VersionSet) → FileFits bytes order file way
       → OpensFile fails bytes can gives file way inputs → AllGive (InputFileCanGive gives) inputs given → Pairwise GivesAs given held
       → FileHolds bytes can order file (union_of held)
-  one_holds law (File f) way inputs given held fits opens g p =
+  one_holds law (File f end) way inputs given held fits opens g p =
       known_holds gives (fails f.now) way order law inputs given held g p (bytes f.now) fits opens
-  one_holds law (Stream r) way inputs given held fits opens g p = stream_holds r way inputs given held fits opens g p
+  one_holds law (Stream r end) way inputs given held fits opens g p = stream_holds r end way inputs given held fits opens g p
 
   -- If a job over the inputs of files accepts them, the files hold sets, and the union of these is that of the inputs' sets.
   pub files_hold : SortedRunsHoldTheFile → (files : List (JobFile F R)) (ways : List FileWay) (inputs : List (InputFile I))

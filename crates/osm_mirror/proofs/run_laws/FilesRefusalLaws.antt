@@ -13,6 +13,8 @@ use Rattle.osm_files.specs.declared.reason.Reason.{Reason}
 use Rattle.osm_files.specs.declared.reason.Reason.TheVariants.{Memory, Opl, O5, BadHeader, Unsorted, NoEnd, AfterEnd}
 use Rattle.osm_files.specs.declared.reason.Reason.TheVariants.{TooLong, ReadFault, WriteFault, Failed}
 use Rattle.osm_files.specs.declared.sorted_run.SortedRun.{SortedRun}
+use Rattle.osm_files.specs.declared.end_rule.EndRule.{EndRule}
+use Rattle.osm_files.specs.EndRule.{by_rule}
 use Rattle.osm_files.specs.Extent.{RunCanGive}
 use Rattle.osm_files.specs.Fault.{fault_at, memory_fault}
 use Rattle.osm_files.specs.FileRuns.{IsAccepted, IsSortedRun, IsReadFailure, IsRefusalOf, IsFirstUnsorted}
@@ -39,7 +41,7 @@ use Rattle.osm_mirror.specs.run.FilesRefusal.{IsFaultOfBytes, IsFaultInWay}
 use Rattle.osm_mirror.specs.run.FilesJob.{read_as_of, IsAsRequired, IsWayOf, FitsBytes, FileFits, FilesFit, OpensRun, OpensFile, OpensFiles}
 use Rattle.osm_mirror.specs.run.FilesJob.{fault_in_run_or, fault_in_files}
 use Rattle.osm_mirror.specs.run.Given.{InputFileCanGive, source_of}
-use Rattle.osm_mirror.proofs.run_laws.FilesJobLaws.{cut, as_pairs, as_given}
+use Rattle.osm_mirror.proofs.run_laws.FilesJobLaws.{cut, as_pairs, as_given, plain_given}
 use Rattle.osm_mirror.proofs.run_laws.InputRefusalLaws.{SomeRefused, some_of_both, any_refused, has_number}
 
 -- ---- the fault of a run
@@ -227,35 +229,38 @@ module _ {F R I : Type 0} (fails : F → Type 0) (bytes : F → Option (List ℕ
       (((o, sym g.0.0 ∙ opens.0.order_is), more.0), ap suc more.1)
 
   -- what a stream's input gives
-  pub record GaveStream (r : R) (given : List (ReadAs × InputRest)) : Type 0 where
+  pub record GaveStream (r : R) (end : EndRule) (given : List (ReadAs × InputRest)) : Type 0 where
     pub c : InputRest
     pub gave : can r c
-    pub only : given ≡ (read_as_of order, c) ∷ []
+    pub only : given ≡ (read_as_of order, by_rule end c) ∷ []
 
-  pub stream_gave : (r : R) (way : FileWay) (inputs : List (InputFile I)) (given : List (ReadAs × InputRest)) → IsAsRequired order way
-      → OpensFile fails bytes can gives (Stream r) way inputs → Given inputs given → GaveStream r given
-  stream_gave r way [] given fits (input, is, opens) g = absurd (let e : [] ≡ input ∷ [] = is in cc)
-  stream_gave r way (x ∷ y ∷ inputs) given fits (input, is, opens) g = absurd (omega (arith, ap length is))
-  stream_gave r way (x ∷ []) [] fits opened g = absurd g
-  stream_gave r way (x ∷ []) (y ∷ z ∷ given) fits opened g = absurd g.1
-  stream_gave r way (x ∷ []) ((how, c) ∷ []) fits (input, is, opens) g =
+  pub stream_gave : (r : R) (end : EndRule) (way : FileWay) (inputs : List (InputFile I)) (given : List (ReadAs × InputRest))
+      → IsAsRequired order way → OpensFile fails bytes can gives (Stream r end) way inputs → Given inputs given → GaveStream r end given
+  stream_gave r end way [] given fits (input, is, opens) g = absurd (let e : [] ≡ input ∷ [] = is in cc)
+  stream_gave r end way (x ∷ y ∷ inputs) given fits (input, is, opens) g = absurd (omega (arith, ap length is))
+  stream_gave r end way (x ∷ []) [] fits opened g = absurd g
+  stream_gave r end way (x ∷ []) (y ∷ z ∷ given) fits opened g = absurd g.1
+  stream_gave r end way (x ∷ []) ((how, c) ∷ []) fits (input, is, opens) g =
       let same : x ≡ input = (let e : x ∷ [] ≡ input ∷ [] = is in cc) in
       let order_is : how ≡ read_as_of order = sym g.0.0 ∙ ap (λ (i : InputFile I). i.read_as) same ∙ opens.order_is
       ∙ ap read_as_of fits.1 in
+      let one : InputRest = g.0.1.0 in
+      let ended : c ≡ by_rule end one =
+      g.0.1.2 ∙ ap (λ (e : EndRule). by_rule e one) (ap (λ (i : InputFile I). i.end) same ∙ opens.end_is) in
       record {
-        c = c;
-        gave = opens.gives_stream c (subst (λ (i : InputFile I). gives i.reader c) same g.0.1);
-        only = ap (λ (h : ReadAs). (h, c) ∷ []) order_is;
+        c = one;
+        gave = opens.gives_stream one (subst (λ (i : InputFile I). gives i.reader one) same g.0.1.1);
+        only = λ i. (order_is i, ended i) ∷ [];
       }
 
   -- the inputs of a file are as many as its runs, and each has an order
   file_ordered : (file : JobFile F R) (way : FileWay) (inputs : List (InputFile I)) (given : List (ReadAs × InputRest))
       → FileFits bytes order file way → OpensFile fails bytes can gives file way inputs → Given inputs given
       → AreOrdered given × (length given ≡ length way.runs.items)
-  file_ordered (File f) way inputs given fits opens g =
+  file_ordered (File f end) way inputs given fits opens g =
       runs_ordered (bytes f.now) (fails f.now) way.size way.order inputs way.runs.items given opens g
-  file_ordered (Stream r) way inputs given fits opens g =
-      let s = stream_gave r way inputs given fits opens g in (
+  file_ordered (Stream r end) way inputs given fits opens g =
+      let s = stream_gave r end way inputs given fits opens g in (
         subst AreOrdered (sym s.only) ((order, refl), tt),
         ap length s.only ∙ ap length (sym fits.0),
       )
@@ -270,16 +275,16 @@ module _ {F R I : Type 0} (fails : F → Type 0) (bytes : F → Option (List ℕ
     pub in_way : (r : Fault) → r.reason ≡ fault.reason → (fault.reason ≡ Memory → ⊥) → r.place ≡ offset_in_file run fault.place
         → IsFaultInWay fails bytes can order file way r
 
-  refused_run : (f : Bor F) (way : FileWay) (fault : Fault) (n : ℕ) (before : List SortedRun) (inputs : List (InputFile I))
-      (runs : List SortedRun) (given : List (ReadAs × InputRest)) → FileFits {R = R} bytes order (File f) way → fault.place < 2 ^ 64
+  refused_run : (f : Bor F) (end : EndRule) (way : FileWay) (fault : Fault) (n : ℕ) (before : List SortedRun) (inputs : List (InputFile I))
+      (runs : List SortedRun) (given : List (ReadAs × InputRest)) → FileFits {R = R} bytes order (File f end) way → fault.place < 2 ^ 64
       → way.runs.items ≡ before ++ runs
       → Pairwise (OpensRun gives (fails f.now) (bytes f.now) way.size way.order) inputs runs → Given inputs given
-      → SomeRefused (n + length before) given fault → RefusedRun n (File f) way fault
-  refused_run f way fault n before [] runs [] fits small is opens g s = absurd s
-  refused_run f way fault n before [] runs (x ∷ given) fits small is opens g s = absurd g
-  refused_run f way fault n before (i ∷ inputs) [] given fits small is opens g s = absurd opens
-  refused_run f way fault n before (i ∷ inputs) (run ∷ runs) [] fits small is opens g s = absurd g
-  refused_run f way fault n before (i ∷ inputs) (run ∷ runs) ((how, c) ∷ given) fits small is opens g (inl e) =
+      → SomeRefused (n + length before) given fault → RefusedRun n (File f end) way fault
+  refused_run f end way fault n before [] runs [] fits small is opens g s = absurd s
+  refused_run f end way fault n before [] runs (x ∷ given) fits small is opens g s = absurd g
+  refused_run f end way fault n before (i ∷ inputs) [] given fits small is opens g s = absurd opens
+  refused_run f end way fault n before (i ∷ inputs) (run ∷ runs) [] fits small is opens g s = absurd g
+  refused_run f end way fault n before (i ∷ inputs) (run ∷ runs) ((how, c) ∷ given) fits small is opens g (inl e) =
       let m : ℕ = n + length before in
       let order_is : how ≡ read_as_of way.order = sym g.0.0 ∙ opens.0.order_is in
       let refused : (source_of m (read_as_of way.order, c)).refusal ≡ Some fault =
@@ -292,28 +297,28 @@ module _ {F R I : Type 0} (fails : F → Type 0) (bytes : F → Option (List ℕ
         input_is = has_number way.order m c fault refused;
         at = at;
         in_way = λ r same other there. known_in_way gives (fails f.now) order way fault r same other small (length before) m run at there
-            (bytes f.now) c fits (opens.0.gives_run c g.0.1) refused;
+            (bytes f.now) c fits (opens.0.gives_run c (plain_given gives i how c opens.0.end_is g.0)) refused;
       }
-  refused_run f way fault n before (i ∷ inputs) (run ∷ runs) (x ∷ given) fits small is opens g (inr more) =
+  refused_run f end way fault n before (i ∷ inputs) (run ∷ runs) (x ∷ given) fits small is opens g (inr more) =
       let next : n + length before + 1 ≡ n + length (before ++ run ∷ []) = omega (arith, length-append before (run ∷ [])) in
-      refused_run f way fault n (before ++ run ∷ []) inputs runs given fits small (is ∙ sym (append_assoc before (run ∷ []) runs))
+      refused_run f end way fault n (before ++ run ∷ []) inputs runs given fits small (is ∙ sym (append_assoc before (run ∷ []) runs))
       opens.1 g.1
       (subst (λ (k : ℕ). SomeRefused k given fault) next more)
 
   refused_file : (file : JobFile F R) (way : FileWay) (fault : Fault) (n : ℕ) (inputs : List (InputFile I))
       (given : List (ReadAs × InputRest)) → FileFits bytes order file way → fault.place < 2 ^ 64
       → OpensFile fails bytes can gives file way inputs → Given inputs given → SomeRefused n given fault → RefusedRun n file way fault
-  refused_file (File f) way fault n inputs given fits small opens g s =
+  refused_file (File f end) way fault n inputs given fits small opens g s =
       let same : n + 0 ≡ n = omega arith in
-      refused_run f way fault n [] inputs way.runs.items given fits small refl opens g
+      refused_run f end way fault n [] inputs way.runs.items given fits small refl opens g
       (subst (λ (k : ℕ). SomeRefused k given fault) (sym same) s)
-  refused_file (Stream r) way fault n inputs given fits small opens g s =
-      let gave = stream_gave r way inputs given fits opens g in
+  refused_file (Stream r end) way fault n inputs given fits small opens g s =
+      let gave = stream_gave r end way inputs given fits opens g in
       ⊎_elim
       (λ e. record {
         j = 0;
         run = whole_run;
-        input_is = has_number order n gave.c fault e ∙ (let same : n ≡ n + 0 = omega arith in same);
+        input_is = has_number order n (by_rule end gave.c) fault e ∙ (let same : n ≡ n + 0 = omega arith in same);
         at = ap (λ (xs : List SortedRun). slice_get xs 0) fits.0;
         in_way = λ r same other there. inl (
           gave.c,
@@ -321,7 +326,7 @@ module _ {F R I : Type 0} (fails : F → Type 0) (bytes : F → Option (List ℕ
           (
             n,
             e ∙ ap Some (λ i. record {
-              input = has_number order n gave.c fault e i;
+              input = has_number order n (by_rule end gave.c) fault e i;
               place = (sym (there ∙ whole_place fault.place small)) i;
               reason = (sym same) i;
             }),

@@ -237,7 +237,7 @@ of_readers : {R : Type 0} (can : R → InputRest → Type 0) (how : ReadAs) (rea
     files ≡ map (file_as how) readers → (P : List (ReadAs × InputRest) → Type 0) → SomeInputsGive (InputFileCanGive can) files P →
     SomeInputsGive can readers (λ given. P (map (λ c. (how, c)) given))
 of_readers can how =
-    some_mapped can (file_as how) can (λ c. (how, c)) (λ reader input h. (input.1, h.1, (λ i. (sym h.0 i, input.1))))
+    some_mapped can (file_as how) can (λ c. (how, c)) (λ reader input h. (h.1.0, h.1.1, (λ i. (sym h.0 i, h.1.2 i))))
 
 -- the files of which slices are read
 of_slices : {R : Type 0} (can : R → InputRest → Type 0) (span : Span) (items : List (SliceFile R)) (files : List (InputFile R)) →
@@ -245,7 +245,7 @@ of_slices : {R : Type 0} (can : R → InputRest → Type 0) (span : Span) (items
     SomeInputsGive (SliceFileCanGive can) items (λ given. P (map (λ c. (Within span c.0, c.1)) given))
 of_slices can span =
     some_mapped can (file_within span) (SliceFileCanGive can) (λ c. (Within span c.0, c.1))
-    (λ item input h. ((item.outside, input.1), (refl, h.1), (λ i. (sym h.0 i, input.1))))
+    (λ item input h. ((item.outside, h.1.0), (refl, h.1.1), (λ i. (sym h.0 i, h.1.2 i))))
 
 -- the sets of the files that were read to their ends
 sets : (all : List InputRest) → All IsRead (map (λ c. (Any, c)) all) → (held : List VersionSet) × Pairwise GivesFile all held

@@ -25,21 +25,25 @@ use Rattle.osm_files.specs.declared.fault.Fault.{Fault}
 use Rattle.osm_files.specs.declared.load.Loaded.{Loaded}
 use Rattle.osm_files.specs.declared.output.Output.{Ghosts}
 use Rattle.osm_files.specs.Change.{change_of}
+use Rattle.osm_files.specs.declared.end_rule.EndRule.{EndRule}
+use Rattle.osm_files.specs.declared.reason.Reason.{Reason}
+use Rattle.osm_files.specs.EndRule.{by_rule}
 use Rattle.osm_files.specs.Fault.{memory_fault}
-use Rattle.osm_files.specs.Groups.{FileSourceData, FileCanGive, new_source, sorted_source, set_given, set_ascends}
+use Rattle.osm_files.specs.Groups.{FileSourceData, FileCanGive, ended_source, sorted_source, set_given, set_ascends}
 use Rattle.osm_files.specs.Held.{HoldsSorted}
 use Rattle.osm_files.specs.Input.{InputRest, GivesOne}
 use Rattle.osm_files.specs.Load.{Loads, StopsLoading}
-use Rattle.osm_files.specs.Position.{units_from, fault_of, with_rest}
+use Rattle.osm_files.specs.Position.{units_from, fault_of}
 use Rattle.osm_files.specs.Sink.{CutShort}
 use Rattle.osm_files.specs.Source.{Ascends}
 use Rattle.osm_files.specs.Stream.{end_whole, front}
 use Rattle.osm_files.specs.Verdict.{file_units, versions_of}
-use Rattle.osm_files.proofs.FaultyLaws.{broken_is_refused}
+use Rattle.osm_files.proofs.EndedLaws.{ended_gives}
+use Rattle.osm_files.proofs.FaultyLaws.{failed_is_refused}
 use Rattle.osm_files.proofs.FileLaws.{files_are_read}
 use Rattle.osm_files.proofs.HoldLaws.{source_gives_held, whole_source_is_held, set_listed}
 use Rattle.osm_files.proofs.LoadLaws.{whole_units, gives_file}
-use Rattle.osm_files.proofs.RiseLaws.{source_rises, source_begins_known}
+use Rattle.osm_files.proofs.RiseLaws.{source_rises}
 use Rattle.osm_merge.specs.declared.span.Span.{Span}
 use Rattle.osm_merge.specs.declared.within.Outside.{Outside}
 use Rattle.osm_merge.specs.declared.within.Outside.TheVariants.{Dropped, Refused}
@@ -65,7 +69,7 @@ use Rattle.osm_mirror.specs.run.SliceJob.{HasSlice, IsPartRead, given_slice}
 use Rattle.osm_mirror.specs.run.SourceRest.{SourceCanGive, source_one, source_possible}
 use Rattle.osm_mirror.specs.run.Given.{GivesFile, GivesAs, IsFileAs, refusal, whole_or_refused, held_source, source_of, sources}
 use Rattle.osm_mirror.specs.run.Given.{InputFileCanGive}
-use Rattle.osm_mirror.specs.run.Given.{file_as, one_of_file, IsRead, IsOpened, AreOpened, CannotBeRead, IsUnread, IsUnopened}
+use Rattle.osm_mirror.specs.run.Given.{file_by, one_of_file, IsRead, IsOpened, AreOpened, CannotBeRead, IsUnread, IsUnopened}
 use Rattle.osm_merge.proofs.SnapLaws.{and_twice as both}
 use Rattle.osm_merge.proofs.UnionLaws.{nothing_appended as at_first}
 use Rattle.osm_merge.proofs.AscendingLaws.{among}
@@ -96,32 +100,33 @@ union_given_is all =
     (has_union sets.empty all v ∙ ap (λ b. b || among v (union.versions_of all)) (in_none v)))
 
 -- ---- one input
-pub source_sorted : (number : ℕ) (c : InputRest) (held : VersionSet) → c.broken ≡ false → HoldsSorted c.bytes held
+pub source_sorted : (number : ℕ) (c : InputRest) (held : VersionSet) → c.failure ≡ None → HoldsSorted c.bytes held
     → sorted_source number c ≡ record { list = to_list held; refusal = None }
 source_sorted number c held unbroken file =
-    (λ i. sorted_source number (record { bytes = c.bytes; broken = unbroken i })) ∙ source_gives_held number c.bytes held file
+    (λ i. sorted_source number (record { bytes = c.bytes; failure = unbroken i })) ∙ source_gives_held number c.bytes held file
 
-source_whole : (number : ℕ) (bytes : List ℕ) (broken : Bool)
-    → (sorted_source number (record { bytes = bytes; broken = broken })).refusal ≡ None
-    → GivesSorted (record { bytes = bytes; broken = broken }) (members (sorted_source number (record { bytes = bytes; broken = broken })))
-source_whole number bytes true whole = absurd (broken_is_refused number bytes whole)
-source_whole number bytes false whole = record { unbroken = refl; file = whole_source_is_held number bytes whole }
+source_whole : (number : ℕ) (bytes : List ℕ) (failure : Option Reason)
+    → (sorted_source number (record { bytes = bytes; failure = failure })).refusal ≡ None
+    → GivesSorted (record { bytes = bytes; failure = failure })
+    (members (sorted_source number (record { bytes = bytes; failure = failure })))
+source_whole number bytes (Some reason) whole = absurd (failed_is_refused reason number bytes whole)
+source_whole number bytes None whole = record { unbroken = refl; file = whole_source_is_held number bytes whole }
 
 -- An input whose source isn't refused gives a sorted file that holds what the source gives.
 pub gives : (number : ℕ) (c : InputRest) → (sorted_source number c).refusal ≡ None → GivesSorted c (members (sorted_source number c))
-gives number c whole = source_whole number c.bytes c.broken whole
+gives number c whole = source_whole number c.bytes c.failure whole
 
 -- No source is refused.
 abbrev pub AreWhole : List source.VersionsToCome → Type 0
 AreWhole all = All (λ s. s.refusal ≡ None) all
 
 -- a source that was opened gives the versions of its file's source
-one_gives : {R : Type 0} (can : R → InputRest → Type 0) (number : ℕ) (reader : R) (still : source.VersionsToCome)
-    → FileCanGive can (new_source number reader) still → (c : InputRest) × can reader c × (still ≡ sorted_source number c)
-one_gives can number reader still h =
-    let known : Some still ≡ Some (sorted_source number h.0) =
-    sym h.2 ∙ source_begins_known (with_rest (new_source number reader).units h.0) [] number (Some h.0) refl refl in
-    (h.0, h.1, cc)
+one_gives : {R : Type 0} (can : R → InputRest → Type 0) (end : EndRule) (number : ℕ) (reader : R) (still : source.VersionsToCome)
+    → FileCanGive can (ended_source end number reader) still
+    → (c : InputRest) × GivesOne (can reader) (λ given. c ≡ by_rule end given) × (still ≡ sorted_source number c)
+one_gives can end number reader still h =
+    let (given, could, is) = ended_gives can end number reader still h in
+    (by_rule end given, (given, could, refl), is)
 
 -- If memory runs out before anything is written, the file is cut after no bytes.
 pub cut_at_once : {O : Type 0} (w : Ghosts O) (before after : O) (number : ℕ) (bytes : List ℕ) (fault : Fault) → fault ≡ memory_fault →
@@ -137,7 +142,7 @@ held_is number c = refl
 
 module _ (number : ℕ) (c : InputRest) (held : VersionSet) (h : GivesFile c held) where
   all_units : units_from None 0 c ≡ file_units c.bytes
-  all_units = (λ i. units_from None 0 (record { bytes = c.bytes; broken = h.unbroken i })) ∙ whole_units c.bytes
+  all_units = (λ i. units_from None 0 (record { bytes = c.bytes; failure = h.unbroken i })) ∙ whole_units c.bytes
 
   -- no unit of the file is refused
   pub file_refusal : refusal number c ≡ None
@@ -347,34 +352,38 @@ unread_more number input rest fault (inl e) = inl e
 unread_more number input rest fault (inr h) = inr (inr h)
 
 -- ---- sources that were opened
-module _ {R : Type 0} (can : R → InputRest → Type 0) (number : ℕ) (reader : R) where
-  pub stream_opens : (s : FileSourceData R) → s ≡ new_source number reader → IsOpened can number (file_as Sorted reader) (Streamed s)
+module _ {R : Type 0} (can : R → InputRest → Type 0) (end : EndRule) (number : ℕ) (reader : R) where
+  pub stream_opens : (s : FileSourceData R) → s ≡ ended_source end number reader
+      → IsOpened can number (file_by end Sorted reader) (Streamed s)
   stream_opens s is still h =
-      let q = one_gives can number reader still (subst (λ (x : FileSourceData R). FileCanGive can x still) is h) in
+      let q = one_gives can end number reader still (subst (λ (x : FileSourceData R). FileCanGive can x still) is h) in
       ((Sorted, q.0), (refl, q.1), (q.2, tt))
 
   -- A sorted file is opened as a source of its versions within a span.
   pub slice_opens : (span : Span) (outside : Outside) (s : FileSourceData R) (w : within.Within (FileSourceData R)) →
-      s ≡ new_source number reader → w ≡ within_span outside span number s →
-      IsOpened can number (file_as (Within span outside) reader) (Sliced w)
+      s ≡ ended_source end number reader → w ≡ within_span outside span number s →
+      IsOpened can number (file_by end (Within span outside) reader) (Sliced w)
   slice_opens span outside s w is slice still h =
       let g = subst (λ (x : within.Within (FileSourceData R)). WithinCanGive (FileCanGive can) x still)
       (slice ∙ ap (within_span outside span number) is) h in
-      let q = one_gives can number reader g.0 g.1 in
+      let q = one_gives can end number reader g.0 g.1 in
       ((Within span outside, q.0), (refl, q.1), (g.2 ∙ ap (given_within outside number span) q.2, tt))
 
 -- A file that was loaded is opened as a source of its set.
-pub load_opens : {R : Type 0} (can : R → InputRest → Type 0) (number : ℕ) (reader : R) (loaded : Loaded) (set : VersionSet)
-    → set ≡ loaded.history → GivesOne (can reader) (λ c. Loads c loaded) → IsOpened can number (file_as Any reader) (Held set)
-load_opens can number reader loaded set is h still e =
-    let file : GivesFile h.0 loaded.history = record { unbroken = h.2.unbroken; file = h.2.holds } in
-    ((Any, h.0), (refl, h.1), (e ∙ ap set_given is ∙ sym (file_read number h.0 loaded.history file), (loaded.history, file)))
+pub load_opens : {R : Type 0} (can : R → InputRest → Type 0) (end : EndRule) (number : ℕ) (reader : R) (loaded : Loaded)
+    (set : VersionSet) → set ≡ loaded.history → GivesOne (can reader) (λ c. Loads (by_rule end c) loaded)
+    → IsOpened can number (file_by end Any reader) (Held set)
+load_opens can end number reader loaded set is h still e =
+    let c : InputRest = by_rule end h.0 in
+    let file : GivesFile c loaded.history = record { unbroken = h.2.unbroken; file = h.2.holds } in
+    ((Any, c), (refl, (h.0, h.1, refl)), (e ∙ ap set_given is ∙ sym (file_read number c loaded.history file), (loaded.history, file)))
 
 -- A file that isn't loaded isn't opened.
-pub load_stops : {R : Type 0} (can : R → InputRest → Type 0) (number : ℕ) (reader : R) (fault : Fault)
-    → GivesOne (can reader) (λ c. StopsLoading number c fault)
-    → GivesOne (InputFileCanGive can (file_as Any reader)) (λ input. IsUnopened number (input ∷ []) fault)
-load_stops can number reader fault h = ((Any, h.0), (refl, h.1), ⊎_elim (λ e. inl e) (λ e. inr (inl e)) h.2)
+pub load_stops : {R : Type 0} (can : R → InputRest → Type 0) (end : EndRule) (number : ℕ) (reader : R) (fault : Fault)
+    → GivesOne (can reader) (λ c. StopsLoading number (by_rule end c) fault)
+    → GivesOne (InputFileCanGive can (file_by end Any reader)) (λ input. IsUnopened number (input ∷ []) fault)
+load_stops can end number reader fault h =
+    ((Any, by_rule end h.0), (refl, (h.0, h.1, refl)), ⊎_elim (λ e. inl e) (λ e. inr (inl e)) h.2)
 
 module _ {R : Type 0} (can : R → InputRest → Type 0) where
   pub opened_more : (number : ℕ) (files : List (InputFile R)) (opened : List (InputSource R)) (file : InputFile R) (s : InputSource R)
@@ -414,7 +423,7 @@ module _ {R : Type 0} (can : R → InputRest → Type 0) where
 
   module _ (one : R → InputRest) (possible : (r : R) → can r (one r)) where
     give_files : (files : List (InputFile R)) → AllGive (InputFileCanGive can) files (map (one_of_file one) files)
-    give_files = give_one (InputFileCanGive can) (one_of_file one) (λ f. (refl, possible f.reader))
+    give_files = give_one (InputFileCanGive can) (one_of_file one) (λ f. (refl, (one f.reader, possible f.reader, refl)))
 
     -- a file that can't be opened, after files that were opened
     pub stops_after : (number : ℕ) (files : List (InputFile R)) (opened : List (InputSource R)) (file : InputFile R)

@@ -1,13 +1,16 @@
 -- Turns of a job: what an output holds that was cleared between them, and why a turn is refused.
-use Rattle.std.proofs.Common.{◌≡◌, ◌⊎◌, inl, inr, ⊎_elim, ℕ, zero, suc, Bool, true, false, List, [], ◌∷◌, ◌++◌, length, Option, Some, None}
+use Rattle.std.proofs.Common.{◌≡◌, ◌⊎◌, ◌↔◌, inl, inr, ⊎_elim, ℕ, zero, suc, Bool, true, false, List, [], ◌∷◌, ◌++◌, length, Option, Some}
+use Rattle.std.proofs.Common.{None}
 use Rattle.std.proofs.Common.{IfSome, IfErr, slice_get, Result, Ok, Err, refl, sym, ap, subst, ◌∙◌, append-nil}
 use Rattle.std.proofs.lemmas.Bool.{false≢true}
 use Rattle.std.proofs.lemmas.List.Elements.{All-nil, All-cons}
+use Rattle.std.specs.List.{All}
 use Rattle.osm_files.specs.declared.fault.Fault.{Fault}
 use Rattle.osm_files.specs.declared.output.Output.{Ghosts}
 use Rattle.osm_files.specs.declared.reason.Reason.TheVariants.{Memory, Unsorted, ReadFault, WriteFault, TooLong}
 use Rattle.osm_files.specs.Change.{change_of}
 use Rattle.osm_files.specs.Clear.{IsCleared}
+use Rattle.osm_files.specs.EndRule.{lacks_its_end, rule_of_file}
 use Rattle.osm_files.specs.Fault.{memory_fault}
 use Rattle.osm_files.specs.FileRuns.{IsAccepted, IsFirstUnsorted}
 use Rattle.osm_files.specs.Input.{InputRest}
@@ -24,8 +27,8 @@ use Rattle.osm_mirror.specs.declared.run.files_job.Order.TheVariants.{Sorted, An
 use Rattle.osm_mirror.specs.run.FilesRefusal.{AreSettled, IsUnsortedTurn, IsFirstFound, first_of, IsFirstIn, IsFirstOf, IsFaultOfBytes}
 use Rattle.osm_mirror.specs.run.FilesRefusal.{IsFaultOf}
 use Rattle.osm_mirror.specs.run.FilesRefusal.{IsFaultAmong, AreRefused, IsCutIfGood, IsOutputFault, RefusesFilesJob, IsFaultInWays}
-use Rattle.osm_mirror.specs.run.FilesRefusal.{RefusesTurn}
-use Rattle.osm_mirror.specs.run.FilesJob.{WroteTo, FileFits, FilesFit}
+use Rattle.osm_mirror.specs.run.FilesRefusal.{RefusesTurn, IsFaultByEnd, IsFaultByRule, IsFaultAmongByRule}
+use Rattle.osm_mirror.specs.run.FilesJob.{WroteTo, FileFits, FilesFit, EndsByRule}
 use Rattle.osm_mirror.proofs.run_laws.FilesGoodLaws.{nothing_cut}
 use Rattle.osm_mirror.proofs.run_laws.FilesRefusalLaws.{all_at}
 
@@ -63,10 +66,10 @@ module _ {O : Type 0} (output : Ghosts O) (can : Bool) (order : Order) (before :
 -- ---- the ways of files
 module _ {F R : Type 0} (bytes : F → Option (List ℕ)) where
   sorted_way : (file : JobFile F R) (way : FileWay) → FileFits bytes Sorted file way → way.may_be_split ≡ false
-  sorted_way (File f) way (inl (whole, o, settled), fits) = settled
-  sorted_way (File f) way (inr (inl (any, tried)), fits) = absurd (let e : Sorted ≡ Any = any in cc)
-  sorted_way (File f) way (inr (inr (any, runs)), fits) = absurd (let e : Sorted ≡ Any = any in cc)
-  sorted_way (Stream r) way fits = fits.2
+  sorted_way (File f end) way (inl (whole, o, settled), fits) = settled
+  sorted_way (File f end) way (inr (inl (any, tried)), fits) = absurd (let e : Sorted ≡ Any = any in cc)
+  sorted_way (File f end) way (inr (inr (any, runs)), fits) = absurd (let e : Sorted ≡ Any = any in cc)
+  sorted_way (Stream r end) way fits = fits.2
 
   -- files that must be sorted aren't split
   pub sorted_settled : (files : List (JobFile F R)) (ways : List FileWay) → FilesFit bytes Sorted files ways → AreSettled ways
@@ -120,11 +123,11 @@ module _ {F R O : Type 0} (fails : F → Type 0) (bytes : F → Option (List ℕ
 
   first_in : (file : JobFile F R) (way : FileWay) → fault.reason ≡ Unsorted → way.may_be_split ≡ true → FileFits bytes job.order file way
       → job.order ≡ Any → IsFaultOf fails bytes can job.order file fault → IsFirstIn bytes file fault.place
-  first_in (File f) way unsorted may fits any (inl failed) =
+  first_in (File f end) way unsorted may fits any (inl failed) =
       absurd (let e : ReadFault ≡ Unsorted = sym failed.1 ∙ unsorted in cc)
-  first_in (File f) way unsorted may fits any (inr never) =
+  first_in (File f end) way unsorted may fits any (inr never) =
       known_first (bytes f.now) (subst (λ (o : Order). IfSome (bytes f.now) (λ all. IsFaultOfBytes o all fault)) any never)
-  first_in (Stream r) way unsorted may fits any found = absurd (false≢true (sym fits.2 ∙ may))
+  first_in (Stream r end) way unsorted may fits any found = absurd (false≢true (sym fits.2 ∙ may))
 
   way_first : IsUnsortedTurn (let r : Result Counts Fault = Err fault in r) ways → job.order ≡ Any → FilesFit bytes job.order files ways
       → IsFaultInWays fails bytes can job.order files ways fault → IsFirstOf bytes files (first_of fault)
@@ -149,9 +152,60 @@ module _ {F R O : Type 0} (fails : F → Type 0) (bytes : F → Option (List ℕ
   settled_turn settled (unsorted, (way, at, may)) =
       false≢true (sym (all_at (λ way. way.may_be_split ≡ false) ways fault.input way settled at) ∙ may)
 
+-- ---- the ends of files
+module _ {F R : Type 0} (fails : F → Type 0) (bytes : F → Option (List ℕ)) (can : R → InputRest → Type 0) (order : Order) where
+  -- the faults of known bytes that end as their rule says
+  known_by_rule : (known : Option (List ℕ)) (lacks : List ℕ → Bool) (fault : Fault) → IfSome known (λ all. lacks all ≡ false)
+      → IfSome known (λ all. IsFaultOfBytes order all fault) ↔ IfSome known (λ all. IsFaultByEnd (lacks all) order all fault)
+  known_by_rule None lacks fault ended = (λ h. tt, λ h. tt)
+  known_by_rule (Some all) lacks fault ended = (
+    λ h. subst (λ (t : Bool). IsFaultByEnd t order all fault) (sym ended) h,
+    λ h. subst (λ (t : Bool). IsFaultByEnd t order all fault) ended h,
+  )
+
+  to_rule : (file : JobFile F R) (fault : Fault) → EndsByRule bytes file → IsFaultOf fails bytes can order file fault
+      → IsFaultByRule fails bytes can order file fault
+  to_rule (File f end) fault ended (inl failed) = inl failed
+  to_rule (File f end) fault ended (inr h) =
+      inr ((known_by_rule (bytes f.now) (lacks_its_end (rule_of_file end)) fault ended).0 h)
+  to_rule (Stream r end) fault ended h = h
+
+  of_rule : (file : JobFile F R) (fault : Fault) → EndsByRule bytes file → IsFaultByRule fails bytes can order file fault
+      → IsFaultOf fails bytes can order file fault
+  of_rule (File f end) fault ended (inl failed) = inl failed
+  of_rule (File f end) fault ended (inr h) =
+      inr ((known_by_rule (bytes f.now) (lacks_its_end (rule_of_file end)) fault ended).1 h)
+  of_rule (Stream r end) fault ended h = h
+
+  module _ (files : List (JobFile F R)) (fault : Fault) (ended : All (EndsByRule bytes) files) where
+    pub among_to_rule : IsFaultAmong fails bytes can order files fault → IsFaultAmongByRule fails bytes can order files fault
+    among_to_rule (file, at, h) = (file, at, to_rule file fault (all_at (EndsByRule bytes) files fault.input file ended at) h)
+
+    pub among_of_rule : IsFaultAmongByRule fails bytes can order files fault → IsFaultAmong fails bytes can order files fault
+    among_of_rule (file, at, h) = (file, at, of_rule file fault (all_at (EndsByRule bytes) files fault.input file ended at) h)
+
 -- ---- why the job is refused
 module _ {F R O : Type 0} (fails : F → Type 0) (bytes : F → Option (List ℕ)) (can : R → InputRest → Type 0) (output : Ghosts O)
     (can_clear : Bool) (job : FilesJob) (files : List (JobFile F R)) (before : O) where
+  -- A job that is refused before it begins, since a file is at fault, wrote nothing.
+  pub ends_refused : (fault : Fault) → (fault ≡ memory_fault) ⊎ IsFaultAmongByRule fails bytes can job.order files fault
+      → RefusesFilesJob fails bytes can output can_clear job files before before fault
+  ends_refused fault refused = record {
+    why = ⊎_elim (λ memory. inl memory) (λ found. inr (inl found)) refused;
+    cut = λ which ended. nothing_cut fails bytes can job files (change_of output before before) fault
+        (λ held h. subst (output.holds before) (sym (append-nil held)) h)
+        (⊎_elim (λ memory. inl memory) (λ found. inr (among_of_rule fails bytes can job.order files fault ended found)) refused);
+  }
+
+module _ {F R O : Type 0} (fails : F → Type 0) (bytes : F → Option (List ℕ)) (can : R → InputRest → Type 0) (output : Ghosts O)
+    (can_clear : Bool) (job : FilesJob) (files : List (JobFile F R)) (ended : All (EndsByRule bytes) files) (before : O) where
+  why_by_rule : (fault : Fault)
+      → (fault ≡ memory_fault) ⊎ IsFaultAmong fails bytes can job.order files fault ⊎ IsOutputFault (length files) fault
+      → (fault ≡ memory_fault) ⊎ IsFaultAmongByRule fails bytes can job.order files fault ⊎ IsOutputFault (length files) fault
+  why_by_rule fault (inl memory) = inl memory
+  why_by_rule fault (inr (inl found)) = inr (inl (among_to_rule fails bytes can job.order files fault ended found))
+  why_by_rule fault (inr (inr out)) = inr (inr out)
+
   abbrev Refuses : O → Fault → Type 0
   Refuses after fault = RefusesFilesJob fails bytes can output can_clear job files before after fault
 
@@ -160,12 +214,12 @@ module _ {F R O : Type 0} (fails : F → Type 0) (bytes : F → Option (List ℕ
       → (fault ≡ memory_fault) ⊎ IsFaultAmong fails bytes can job.order files fault ⊎ IsOutputFault (length files) fault
       → IsCutIfGood fails bytes can job files (change_of output now after) fault → Refuses after fault
   run_refused now after fault (inl same) why cut = record {
-    why = why;
-    cut = λ which. subst (λ (o : O). IsCutIfGood fails bytes can job files (change_of output o after) fault) same cut;
+    why = why_by_rule fault why;
+    cut = λ which ended. subst (λ (o : O). IsCutIfGood fails bytes can job files (change_of output o after) fault) same cut;
   }
   run_refused now after fault (inr (may, any, cleared)) why cut = record {
-    why = why;
-    cut = λ which. absurd (⊎_elim (λ sorted. two_orders job.order sorted any) (λ cannot. false≢true (sym cannot ∙ may)) which);
+    why = why_by_rule fault why;
+    cut = λ which ended. absurd (⊎_elim (λ sorted. two_orders job.order sorted any) (λ cannot. false≢true (sym cannot ∙ may)) which);
   }
 
   -- A job that may begin anew makes no promise on what it wrote.
@@ -173,8 +227,8 @@ module _ {F R O : Type 0} (fails : F → Type 0) (bytes : F → Option (List ℕ
       → (fault ≡ memory_fault) ⊎ IsFaultAmong fails bytes can job.order files fault ⊎ IsOutputFault (length files) fault
       → Refuses after fault
   anew_refused after fault may any why = record {
-    why = why;
-    cut = λ which. absurd (⊎_elim (λ sorted. two_orders job.order sorted any) (λ cannot. false≢true (sym cannot ∙ may)) which);
+    why = why_by_rule fault why;
+    cut = λ which ended. absurd (⊎_elim (λ sorted. two_orders job.order sorted any) (λ cannot. false≢true (sym cannot ∙ may)) which);
   }
 
   -- A job that is refused before a turn wrote nothing in it.

@@ -6,6 +6,7 @@ use Rattle.std.specs.List.{All}
 use Rattle.std.proofs.lemmas.Bool.{false≢true}
 use Rattle.std.proofs.lemmas.List.{take_all, drop_all, take_more_set}
 use Rattle.std.proofs.lemmas.List.Elements.{All-nil, All-cons, All-head, All-tail, All-append}
+use Rattle.osm_files.specs.declared.end_rule.EndRule.{EndRule}
 use Rattle.osm_files.specs.declared.fault.Fault.{Fault}
 use Rattle.osm_files.specs.declared.sorted_run.SortedRun.{SortedRun}
 use Rattle.osm_files.specs.declared.reason.Reason.TheVariants.{ReadFault}
@@ -50,10 +51,10 @@ module _ {F R : Type 0} (fails : F → Type 0) (bytes : F → Option (List ℕ))
   too_long (Some all) fault long = long_bytes order all fault long
 
   -- A file whose size isn't known, or that is too long, is refused.
-  pub size_refused : (f : Bor F) (input : ℕ) (fault : Fault) → fault.input ≡ input → IsSizeFault (fails f.now) (bytes f.now) fault
-      → IsRefusedFile fails bytes can order input (File f) fault
-  size_refused f input fault at (inl failed) = inr (at, inl failed)
-  size_refused f input fault at (inr long) = inr (at, inr (too_long (bytes f.now) fault long))
+  pub size_refused : (f : Bor F) (end : EndRule) (input : ℕ) (fault : Fault) → fault.input ≡ input
+      → IsSizeFault (fails f.now) (bytes f.now) fault → IsRefusedFile fails bytes can order input (File f end) fault
+  size_refused f end input fault at (inl failed) = inr (at, inl failed)
+  size_refused f end input fault at (inr long) = inr (at, inr (too_long (bytes f.now) fault long))
 
 -- The first version out of order of one of the files.
 pub first_at : {F R : Type 0} (bytes : F → Option (List ℕ)) (files : List (JobFile F R)) (input : ℕ) (file : JobFile F R)
@@ -73,11 +74,11 @@ module _ (Fails : Type 0) (fault : Fault) where
 
 module _ {F R : Type 0} (fails : F → Type 0) (bytes : F → Option (List ℕ)) (can : R → InputRest → Type 0) where
   -- A file in which no runs are found, since it can't be read, is refused.
-  pub runs_refused : (f : Bor F) (input size : ℕ) (fault : Fault) → IfSome (bytes f.now) (λ all. length all ≡ size)
+  pub runs_refused : (f : Bor F) (end : EndRule) (input size : ℕ) (fault : Fault) → IfSome (bytes f.now) (λ all. length all ≡ size)
       → IsOfFile input fault → IfWhole (bytes f.now) size (λ all. IsRefusalOf (fails f.now) all fault)
-      → IsRefusedFile fails bytes can Any input (File f) fault
-  runs_refused f input size fault long (inl memory) refused = inl memory
-  runs_refused f input size fault long (inr at) refused =
+      → IsRefusedFile fails bytes can Any input (File f end) fault
+  runs_refused f end input size fault long (inl memory) refused = inl memory
+  runs_refused f end input size fault long (inr at) refused =
       ⊎_elim (λ memory. inl memory) (λ found. inr (at, found)) (known_runs (fails f.now) fault (bytes f.now) size long refused)
 
 -- ---- ways

@@ -10,6 +10,9 @@ use Rattle.osm_files.specs.declared.output.Output.{Ghosts}
 use Rattle.osm_files.specs.declared.sorted_run.SortedRun.{SortedRun}
 use Rattle.osm_files.specs.Change.{change_of}
 use Rattle.osm_files.specs.Clear.{IsCleared}
+use Rattle.osm_files.specs.declared.end_rule.EndRule.{EndRule}
+use Rattle.osm_files.specs.declared.end_rule.EndRule.TheVariants as rule
+use Rattle.osm_files.specs.EndRule.{by_rule, lacks_its_end, rule_of_file}
 use Rattle.osm_files.specs.Extent.{RunCanGive}
 use Rattle.osm_files.specs.Fault.{fault_at}
 use Rattle.osm_files.specs.FileRuns.{IsAccepted, IsSortedRun}
@@ -46,10 +49,15 @@ HoldsAs Any = Holds
 
 module _ {F R : Type 0} (bytes : F → Option (List ℕ)) (can : R → InputRest → Type 0) where
   -- A file of a job holds this set, in the order that is required, as far as the file's bytes are known. A stream gave
-  -- such a file.
+  -- such a file, which ends as its rule says.
   abbrev pub FileHolds : Order → JobFile F R → VersionSet → Type 0
-  FileHolds order (File f) held = IfSome (bytes f.now) (λ all. HoldsAs order all held)
-  FileHolds order (Stream r) held = GivesOne (can r) (λ c. GivesAs (read_as_of order, c) held)
+  FileHolds order (File f end) held = IfSome (bytes f.now) (λ all. HoldsAs order all held)
+  FileHolds order (Stream r end) held = GivesOne (can r) (λ c. GivesAs (read_as_of order, by_rule end c) held)
+
+-- A file of a job ends as its rule says, as far as the file's bytes are known. For a stream see `FileHolds`.
+abbrev pub EndsByRule : {F R : Type 0} → (F → Option (List ℕ)) → JobFile F R → Type 0
+EndsByRule bytes (File f end) = IfSome (bytes f.now) (λ all. lacks_its_end (rule_of_file end) all ≡ false)
+EndsByRule bytes (Stream r end) = Unit {0}
 
 -- A job over these files, with this change of the output: each file holds a set, in the order that is required, and the
 -- one spelling of the selection of the union of the sets was appended. The clashes are those of the union, whatever is
@@ -106,34 +114,36 @@ FitsBytes known way = (way.size < 2 ^ 62)
 module _ {F R : Type 0} (bytes : F → Option (List ℕ)) where
   -- a file that must have this order may be read in this way
   abbrev pub FileFits : Order → JobFile F R → FileWay → Type 0
-  FileFits order (File f) way = IsWayOf order (bytes f.now) way × FitsBytes (bytes f.now) way
-  FileFits order (Stream r) way = IsAsRequired order way
+  FileFits order (File f end) way = IsWayOf order (bytes f.now) way × FitsBytes (bytes f.now) way
+  FileFits order (Stream r end) way = IsAsRequired order way
 
   -- each file may be read in its way
   abbrev pub FilesFit : Order → List (JobFile F R) → List FileWay → Type 0
   FilesFit order files ways = Pairwise (FileFits order) files ways
 
 -- ---- the inputs of files
--- an input is read in this order, and gives a run of a file of `size` bytes
+-- an input is read in this order, and gives a run of a file of `size` bytes, which may end after any byte
 pub record OpensRun {I : Type 0} (gives : I → InputRest → Type 0) (Fails : Type 0) (known : Option (List ℕ)) (size : ℕ)
     (order : Order) (input : InputFile I) (run : SortedRun) : Type 0 where
   pub gives_run : (c : InputRest) → gives input.reader c → RunCanGive Fails known run size c
   pub order_is : input.read_as ≡ read_as_of order
+  pub end_is : input.end ≡ rule.Any
 
--- an input is read in this order, and gives what a stream gives
+-- an input is read in this order, and gives what a stream gives, which has to end as its rule says
 pub record OpensStream {R I : Type 0} (can : R → InputRest → Type 0) (gives : I → InputRest → Type 0) (order : Order)
-    (stream : R) (input : InputFile I) : Type 0 where
+    (stream : R) (end : EndRule) (input : InputFile I) : Type 0 where
   pub gives_stream : (c : InputRest) → gives input.reader c → can stream c
   pub order_is : input.read_as ≡ read_as_of order
+  pub end_is : input.end ≡ end
 
 module _ {F R I : Type 0} (fails : F → Type 0) (bytes : F → Option (List ℕ)) (can : R → InputRest → Type 0)
     (gives : I → InputRest → Type 0) where
   -- the inputs of a file that is read in this way
   abbrev pub OpensFile : JobFile F R → FileWay → List (InputFile I) → Type 0
-  OpensFile (File f) way inputs =
+  OpensFile (File f end) way inputs =
       Pairwise (OpensRun gives (fails f.now) (bytes f.now) way.size way.order) inputs way.runs.items
-  OpensFile (Stream r) way inputs =
-      (input : InputFile I) × (inputs ≡ input ∷ []) × OpensStream can gives way.order r input
+  OpensFile (Stream r end) way inputs =
+      (input : InputFile I) × (inputs ≡ input ∷ []) × OpensStream can gives way.order r end input
 
   -- the inputs of files, in sequence
   abbrev pub OpensFiles : List (JobFile F R) → List FileWay → List (InputFile I) → Type 0

@@ -1,12 +1,15 @@
 -- The bytes that files give, each with the way in which its versions are read.
-use Rattle.std.specs.Prelude.{◌≡◌, ◌⊎◌, ℕ, ◌+◌, false, List, [], ◌∷◌, Option, Some, None}
+use Rattle.std.specs.Prelude.{◌≡◌, ◌⊎◌, ℕ, ◌+◌, List, [], ◌∷◌, Option, Some, None}
 use Rattle.osm_model.specs.Data.{VersionData}
 use Rattle.osm_model.specs.Order.{version_cmp}
 use Rattle.osm_model.specs.VersionSet.{VersionSet}
 use Rattle.osm_model.specs.Sets.{from_list}
 use Rattle.osm_files.specs.declared.fault.Fault.{Fault}
 use Rattle.osm_files.specs.Fault.{memory_fault}
-use Rattle.osm_files.specs.Input.{InputRest, Explained}
+use Rattle.osm_files.specs.declared.end_rule.EndRule.{EndRule}
+use Rattle.osm_files.specs.declared.end_rule.EndRule.TheVariants as rule
+use Rattle.osm_files.specs.EndRule.{by_rule}
+use Rattle.osm_files.specs.Input.{InputRest, Explained, GivesOne}
 use Rattle.osm_files.specs.Held.{Holds}
 use Rattle.osm_files.specs.Groups.{sorted_source, set_given}
 use Rattle.osm_files.specs.Position.{units_from, with_input}
@@ -26,7 +29,7 @@ use Rattle.osm_mirror.specs.run.SourceRest.{SourceCanGive}
 
 -- the input gives a file that holds this set, in any order of its versions, and then its end
 pub record GivesFile (input : InputRest) (held : VersionSet) : Type 0 where
-  pub unbroken : input.broken ≡ false
+  pub unbroken : input.failure ≡ None
   pub file : Holds input.bytes held
 
 -- the input was read in its way, and gave this set
@@ -42,17 +45,23 @@ IsFileAs (Sorted, c) = GivesSorted c
 IsFileAs (Any, c) = GivesFile c
 IsFileAs (Within span outside, c) = GivesSlice span (outside, c)
 
--- the reader of this file can give these bytes, and the file is to be read in this way
+-- the reader of this file can give these bytes, which have to end as its rule says, and the file is to be read in this
+-- way
 abbrev pub InputFileCanGive : {R : Type 0} → (R → InputRest → Type 0) → InputFile R → ReadAs × InputRest → Type 0
-InputFileCanGive can file input = (file.read_as ≡ input.0) × can file.reader input.1
+InputFileCanGive can file input =
+    (file.read_as ≡ input.0) × GivesOne (can file.reader) (λ given. input.1 ≡ by_rule file.end given)
 
 -- something that the file can give, if `one` is what its reader can give
 abbrev pub one_of_file : {R : Type 0} → (R → InputRest) → InputFile R → ReadAs × InputRest
-one_of_file one file = (file.read_as, one file.reader)
+one_of_file one file = (file.read_as, by_rule file.end (one file.reader))
 
--- a file that is read in this way, with this reader
+-- a file that is read in this way, with this reader, and has to end as this rule says
+abbrev pub file_by : {R : Type 0} → EndRule → ReadAs → R → InputFile R
+file_by end how reader = record { reader = reader; read_as = how; end = end }
+
+-- a file that may end after any byte
 abbrev pub file_as : {R : Type 0} → ReadAs → R → InputFile R
-file_as how reader = record { reader = reader; read_as = how }
+file_as = file_by rule.Any
 
 -- a file of which a slice is read, as a file that is read within the span
 abbrev pub file_within : {R : Type 0} → Span → SliceFile R → InputFile R

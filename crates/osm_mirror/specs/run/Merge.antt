@@ -1,5 +1,5 @@
 -- The output of a merge of files, and the reasons why it is refused: an own rule of this project.
-use Rattle.std.specs.Prelude.{◌≡◌, ℕ, ◌+◌, false, List, [], ◌∷◌, length}
+use Rattle.std.specs.Prelude.{◌≡◌, ℕ, ◌+◌, None, List, [], ◌∷◌, length}
 use Rattle.osm_model.specs.VersionSet.{VersionSet}
 use Rattle.osm_files.specs.declared.fault.Fault.{Fault}
 use Rattle.osm_files.specs.declared.format.Format.{Format}
@@ -14,7 +14,7 @@ use Rattle.osm_mirror.specs.run.Job.{IsJobBy, RefusesJobBy}
 
 -- the input gives a sorted file that holds this set, and then its end
 pub record GivesSorted (input : InputRest) (held : VersionSet) : Type 0 where
-  pub unbroken : input.broken ≡ false
+  pub unbroken : input.failure ≡ None
   pub file : HoldsSorted input.bytes held
 
 -- A merge of these inputs, in this format, with this change of the output: each input gave a sorted file, and the one

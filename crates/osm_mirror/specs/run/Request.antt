@@ -11,9 +11,6 @@ use Rattle.osm_mirror.specs.declared.run.files_job.Order.{Order}
 use Rattle.osm_mirror.specs.declared.run.files_job.Order.TheVariants.{Sorted, Any}
 use Rattle.osm_mirror.specs.declared.run.request.Command.{Command}
 use Rattle.osm_mirror.specs.declared.run.request.Command.TheVariants.{Merge, Apply, Sort, TimeFilter}
-use Rattle.osm_mirror.specs.declared.run.request.FileEnd.{FileEnd}
-use Rattle.osm_mirror.specs.declared.run.request.FileEnd.TheVariants.{LineFeed, Mark}
-use Rattle.osm_mirror.specs.declared.run.request.FileEnd.TheVariants as end
 use Rattle.osm_mirror.specs.declared.run.request.FileRequest.{FileRequest}
 use Rattle.osm_mirror.specs.declared.run.request.RequestFault.{RequestFault}
 use Rattle.osm_mirror.specs.declared.run.request.RequestFault.TheVariants.{NoTime, NotMoment, NotAfterFirst}
@@ -31,18 +28,6 @@ order_for Merge sorted = Sorted
 order_for Apply sorted = if sorted then Sorted else Any
 order_for Sort sorted = if sorted then Sorted else Any
 order_for TimeFilter sorted = if sorted then Sorted else Any
-
--- how an OPL file must end: with `--ended` by the end mark, with `--whole` by a line feed
-abbrev pub required_end : (whole ended : Bool) → FileEnd
-required_end whole true = Mark
-required_end true false = LineFeed
-required_end false false = end.Any
-
--- the end of a file: a regular one needs no mark
-abbrev pub end_of_file : FileEnd → (is_regular : Bool) → FileEnd
-end_of_file end.Any is_regular = end.Any
-end_of_file LineFeed is_regular = LineFeed
-end_of_file Mark is_regular = if is_regular then LineFeed else Mark
 
 -- the moment that a reading of a time gives
 abbrev pub moment_or_fault : Bor (List ℕ) → Result ℕ OplReason → Result ℕ RequestFault

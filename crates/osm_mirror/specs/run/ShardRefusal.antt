@@ -1,13 +1,16 @@
 -- Why a job for a shard is refused: an own rule of this project.
 use Rattle.std.specs.Prelude.{◌≡◌, ◌⊎◌, ℕ, ◌<◌, ◌≤◌, ◌^◌, List, length, sum_by, Option, Some}
-use Rattle.std.specs.Prelude.{None, IfSome, slice_get}
+use Rattle.std.specs.Prelude.{None, IfSome, slice_get, false}
+use Rattle.std.specs.List as list
 use Rattle.osm_model.specs.Pairwise.{Pairwise}
 use Rattle.osm_model.specs.VersionSet.{VersionSet}
 use Rattle.osm_files.specs.declared.fault.Fault.{Fault}
 use Rattle.osm_files.specs.declared.format.Format.{Format}
 use Rattle.osm_files.specs.declared.output.Output.{Ghosts}
 use Rattle.osm_files.specs.declared.reason.Reason.TheVariants.{ReadFault, TooLong}
+use Rattle.osm_files.specs.declared.end_rule.EndRule.{EndRule}
 use Rattle.osm_files.specs.Change.{change_of}
+use Rattle.osm_files.specs.EndRule.{lacks_its_end, rule_of_file}
 use Rattle.osm_files.specs.Fault.{memory_fault, fault_at}
 use Rattle.osm_files.specs.FileRuns.{IsReadFailure}
 use Rattle.osm_files.specs.Held.{HoldsSorted}
@@ -22,7 +25,7 @@ use Rattle.osm_mirror.specs.declared.run.files_job.Order.TheVariants.{Sorted}
 use Rattle.osm_mirror.specs.declared.run.shard_extent.FileExtent.{FileExtent}
 use Rattle.osm_mirror.specs.declared.run.shard_job.ShardJob.{ShardJob}
 use Rattle.osm_mirror.specs.run.Bounds.{opl_size, shard_span}
-use Rattle.osm_mirror.specs.run.FilesRefusal.{IsFaultOfBytes, IsOutputFault}
+use Rattle.osm_mirror.specs.run.FilesRefusal.{IsFaultOfBytes, IsFaultByEnd, IsOutputFault}
 use Rattle.osm_mirror.specs.run.Probes.{HaveBytes}
 use Rattle.osm_mirror.specs.run.Job.{union_of}
 use Rattle.osm_mirror.specs.run.ShardJob.{shard_slices}
@@ -38,6 +41,11 @@ IsFileRefusal Fails known fault = IsReadFailure Fails fault
 abbrev pub IsFaultOfFile : Type 0 → Option (List ℕ) → Fault → Type 0
 IsFaultOfFile Fails known fault = (Fails × (fault.reason ≡ ReadFault))
     ⊎ IfSome known (λ all. IsFaultOfBytes Sorted all fault)
+
+-- The same of a file that has to end as the rule says.
+abbrev pub IsFaultByRule : EndRule → Type 0 → Option (List ℕ) → Fault → Type 0
+IsFaultByRule end Fails known fault = (Fails × (fault.reason ≡ ReadFault))
+    ⊎ IfSome known (λ all. IsFaultByEnd (lacks_its_end (rule_of_file end) all) Sorted all fault)
 
 -- The first fault of a file in place of a fault of it: memory ran out, it is a fault of the file, or the whole file is
 -- sorted as far as its bytes are known, and the fault is the same.
@@ -84,9 +92,15 @@ module _ {F : Type 0} (known : F → Option (List ℕ)) (fails : F → Type 0) w
     pub why : AreRefused IsOf files fault ⊎ IsOutputFault (length files) fault
     pub cut : IsCutIfGood selection format span files change fault
 
+  -- each of these files ends as the rule says, as far as its bytes are known
+  abbrev pub EndByRule : EndRule → List F → Type 0
+  EndByRule end files =
+      list.All (λ file. IfSome (known file) (λ all. lacks_its_end (rule_of_file end) all ≡ false)) files
+
   -- Why a job for a shard of these files was refused: memory ran out, or one of the files or the output is at fault. If
-  -- all files are good, a front of the file that was to be written was appended.
-  abbrev pub RefusesShardJob : {O : Type 0} → Ghosts O → ShardJob → List F → O → O → Fault → Type 0
-  RefusesShardJob output job files before after =
-      RefusesSpan IsFaultOfFile job.selection job.format (shard_span job.shard.number job.shard.count) files
-      (change_of output before after)
+  -- all files are good and end as the rule says, a front of the file that was to be written was appended.
+  pub record RefusesShardJob {O : Type 0} (output : Ghosts O) (job : ShardJob) (files : List F) (before after : O)
+      (fault : Fault) : Type 0 where
+    pub why : AreRefused (IsFaultByRule job.end) files fault ⊎ IsOutputFault (length files) fault
+    pub cut : EndByRule job.end files → IsCutIfGood job.selection job.format
+        (shard_span job.shard.number job.shard.count) files (change_of output before after) fault

@@ -26,8 +26,8 @@ pub struct PlanRun {
 }
 
 impl PlanRun {
-    /// Runs the steps of `plan` in new mirrors. `files` has for each step the bytes of the file that it takes; those for
-    /// a step that takes no file don't count.
+    /// Runs the steps of `plan` in new mirrors. `files` has for each step the bytes of the file that it takes; those
+    /// for a step that takes no file don't count.
     ///
     /// # Errors
     ///

@@ -26,8 +26,6 @@ pub struct Meter<'a, C, E> {
     bytes: Cell<u64>,
     /// What the job wrote.
     tally: Cell<JobTally>,
-    /// The number of the input whose read failed last.
-    pub failed: Cell<Option<usize>>,
     /// The size of all input files in bytes, if it is known.
     size: Cell<Option<u64>>,
 }
@@ -46,7 +44,6 @@ impl<'a, C: Clock, E: Write + IsTerminal> Meter<'a, C, E> {
             last: Cell::new(start),
             bytes: Cell::new(0),
             tally: Cell::new(JobTally::new()),
-            failed: Cell::new(None),
             size: Cell::new(None),
         }
     }

@@ -1,6 +1,7 @@
 //! The check of a file: its format and its sizes.
 ghost use Rattle.std.specs.Prelude.{◌≡◌, ◌⊎◌, ◌+◌, true, Some, IfOk, IfErr};
 ghost use Rattle.osm_files.specs.Fault.{memory_fault};
+ghost use Rattle.osm_files.specs.EndRule.{by_rule};
 ghost use Rattle.osm_files.specs.Input.{GivesOne};
 ghost use Rattle.osm_files.specs.Load.{StopsLoading, StopsOpening};
 ghost use Rattle.osm_merge.specs.Union.{capped_count};
@@ -8,7 +9,7 @@ ghost use Rattle.osm_mirror.specs.run.Check.{Reports, IsChecked, IsCounted, chec
 ghost use Rattle.osm_mirror.specs.run.Tally.{IsTalliedWith};
 
 use crate::run::tally::Tally;
-use osm_files::{Fault, FileSource, Format, HistorySource, Input, Source, load_any};
+use osm_files::{EndRule, Fault, FileSource, Format, HistorySource, Input, Source, load_ended};
 use osm_model::Version;
 use std::alloc::Global;
 
@@ -72,7 +73,7 @@ pub fn run_check<R: Input + Drop>(alloc: Global, input: R) -> Result<CheckReport
     ensures report { IfOk result (λ report. GivesOne (R.can_give input) (λ c. Reports c report)) }
     ensures refused { IfErr result (λ fault. GivesOne (R.can_give input) (λ c. StopsLoading 0 c fault)) }
 {
-    Ok(run_tally(alloc, input)?.report)
+    Ok(run_tally(alloc, EndRule::Any, input)?.report)
 }
 
 /// Checks a sorted file in one pass over it, and keeps only the versions of one key. The report is the one that
@@ -87,35 +88,42 @@ pub fn run_check_sorted<R: Input + Drop>(alloc: Global, input: R) -> Result<Chec
     ensures sorted { IfOk result (λ report. report.sorted ≡ true) }
     ensures refused { IfErr result (λ fault. GivesOne (R.can_give input) (λ c. StopsOpening 0 c fault)) }
 {
-    Ok(run_tally_sorted(alloc, input)?.report)
+    Ok(run_tally_sorted(alloc, EndRule::Any, input)?.report)
 }
 
-/// Checks a file as [`run_check`] does, and tallies its versions.
+/// Checks a file as [`run_check`] does, which has to end as `end` requires, and tallies its versions.
 ///
 /// # Errors
 ///
-/// Those of [`run_check`].
-pub fn run_tally<R: Input + Drop>(alloc: Global, input: R) -> Result<Checked, Fault>
-    ensures checked { IfOk result (λ checked. GivesOne (R.can_give input) (λ c. IsChecked c checked)) }
-    ensures refused { IfErr result (λ fault. GivesOne (R.can_give input) (λ c. StopsLoading 0 c fault)) }
+/// Those of [`run_check`]; or `NoEnd` at the length of the file if the end is missing and no whole unit is faulty.
+pub fn run_tally<R: Input + Drop>(alloc: Global, end: EndRule, input: R) -> Result<Checked, Fault>
+    ensures checked { IfOk result (λ checked. GivesOne (R.can_give input) (λ c. IsChecked (by_rule end c) checked)) }
+    ensures refused { IfErr result (λ fault.
+        GivesOne (R.can_give input) (λ c. StopsLoading 0 (by_rule end c) fault)) }
 {
-    let loaded = load_any(alloc, 0, input)?;
+    let loaded = load_ended(alloc, 0, end, input)?;
     let mut source = HistorySource::new(loaded.history);
     let sizes = count(&mut source)?;
     Ok(sizes.checked(loaded.format, loaded.sorted))
 }
 
-/// Checks a sorted file as [`run_check_sorted`] does, and tallies its versions.
+/// Checks a sorted file as [`run_check_sorted`] does, which has to end as `end` requires, and tallies its versions.
 ///
 /// # Errors
 ///
-/// Those of [`run_check_sorted`].
-pub fn run_tally_sorted<R: Input + Drop>(alloc: Global, input: R) -> Result<Checked, Fault>
-    ensures checked { IfOk result (λ checked. GivesOne (R.can_give input) (λ c. IsChecked c checked)) }
+/// Those of [`run_check_sorted`]; or `NoEnd` at the length of the file if the end is missing and no whole unit is
+/// faulty or out of order.
+pub fn run_tally_sorted<R: Input + Drop>(
+    alloc: Global,
+    end: EndRule,
+    input: R,
+) -> Result<Checked, Fault>
+    ensures checked { IfOk result (λ checked. GivesOne (R.can_give input) (λ c. IsChecked (by_rule end c) checked)) }
     ensures sorted { IfOk result (λ checked. checked.report.sorted ≡ true) }
-    ensures refused { IfErr result (λ fault. GivesOne (R.can_give input) (λ c. StopsOpening 0 c fault)) }
+    ensures refused { IfErr result (λ fault.
+        GivesOne (R.can_give input) (λ c. StopsOpening 0 (by_rule end c) fault)) }
 {
-    let (format, mut source) = FileSource::open(alloc, 0, input)?;
+    let (format, mut source) = FileSource::open(alloc, 0, end, input)?;
     let counted = count(&mut source);
     drop(source);
     let sizes = counted?;

@@ -72,7 +72,7 @@ impl FilesToSplit {
         match self {
             FilesToSplit::OfFirst(first) => first.file == file,
             FilesToSplit::Descending => match files.get(file) {
-                Some(JobFile::File(opened)) => descends(alloc, *opened),
+                Some(JobFile::File(opened, _)) => descends(alloc, *opened),
                 _ => false,
             },
             FilesToSplit::All => true,
@@ -122,11 +122,11 @@ fn first_way<'f, F: ReadAt, R: Input>(
     ensures refused { IfErr result (IsRefusedFile F.fails F.bytes R.can_give order input file.now) }
 {
     match file {
-        JobFile::File(file) => {
+        JobFile::File(file, _) => {
             let size = short_size(*file, input)?;
             FileWay::whole(alloc, Order::Sorted, size, order.is_any())
         }
-        JobFile::Stream(_) => FileWay::whole(alloc, order, 0, false),
+        JobFile::Stream(_, _) => FileWay::whole(alloc, order, 0, false),
     }
 }
 
@@ -309,7 +309,7 @@ fn split_file<'f, F: ReadAt, R: Input>(
     ensures settled { IfOk result (λ way. way.may_be_split ≡ false) }
     ensures refused { IfErr result (IsRefusedFile F.fails F.bytes R.can_give Order.Any input file.now) }
 {
-    let JobFile::File(file) = file else {
+    let JobFile::File(file, _) = file else {
         return FileWay::whole(alloc, Order::Any, 0, false);
     };
     let size = short_size(*file, input)?;

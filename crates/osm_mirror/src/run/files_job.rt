@@ -1,30 +1,33 @@
 //! The one job over open files and streams.
 ghost use Rattle.std.specs.Prelude.{◌≡◌, ◌↔◌, true, false, IsTrue, IfOk, IfErr, OnOk, IfSome};
+ghost use Rattle.std.specs.List as list;
 ghost use Rattle.osm_files.specs.Change.{change_of};
 ghost use Rattle.osm_files.specs.Clear.{IsCleared};
 ghost use Rattle.osm_files.specs.Fault.{memory_fault};
 ghost use Rattle.osm_merge.specs.Merged.{Grows};
 ghost use Rattle.osm_mirror.specs.run.FilesRefusal.{RefusesFilesJob, IsOutputFault, MayBeSplit, IsFirstFound};
-ghost use Rattle.osm_mirror.specs.run.FilesJob.{read_as_of, IsFilesJob, WroteTo};
+ghost use Rattle.osm_mirror.specs.run.FilesJob.{read_as_of, IsFilesJob, WroteTo, EndsByRule};
 ghost use Rattle.osm_mirror.specs.declared.run.files_job.Order.TheVariants as order;
 
+use crate::run::file_end::refuse_cut;
 use crate::run::file_way::{FileWay, FirstUnsorted, last_ways, ways_after, ways_at_first};
 use crate::run::files_turn::run_turn;
 use crate::run::input::ReadAs;
-use osm_files::{Broken, ClearOutput, Fault, Format, Input, ReadAt, Reason};
+use osm_files::{Broken, ClearOutput, EndRule, Fault, Format, Input, ReadAt, Reason};
 use osm_merge::{Counts, Progress, Selection};
 use std::alloc::Global;
 
 /// The most turns of a job.
 const TURNS: usize = 3;
 
-/// An open file of a job.
+/// An open file of a job, and the rule for its end.
 #[derive(Drop)]
 pub enum JobFile<'f, F, R> {
-    /// A file that can be read at any offset, and more than once.
-    File(&'f F),
+    /// A file that can be read at any offset, and more than once. It needs no mark at its end: see
+    /// [`EndRule::of_file`].
+    File(&'f F, EndRule),
     /// A stream, which can be read once.
-    Stream(R),
+    Stream(R, EndRule),
 }
 
 /// The order that the versions of a file must have.
@@ -68,8 +71,10 @@ pub struct FilesJob {
 
 /// Appends the one file that holds the selection of the versions of all files, each once.
 ///
-/// If it returns `Ok`, each file is a file of its grammar, and sorted if the order of the job is `Sorted`. The bytes
-/// written are the one spelling of the selection of the union of the files' sets.
+/// If it returns `Ok`, each file is a file of its grammar, sorted if the order of the job is `Sorted`, and ends as its
+/// rule says. The bytes written are the one spelling of the selection of the union of the files' sets.
+///
+/// The job looks at the ends of the files that aren't streams before it reads or writes anything.
 ///
 /// If the order is `Any`, a file is first read as a sorted one, unless a look at a few of its versions shows that it
 /// isn't. If it is refused as `Unsorted`, it is split into sorted
@@ -81,8 +86,9 @@ pub struct FilesJob {
 /// # Errors
 ///
 /// The files are numbered from 0, and the number of the output is the number of files. If a file can't be read, or
-/// isn't sorted though the order is `Sorted`, the fault has its number, the reason and the offset in the file. If
-/// several files are faulty, it is the fault of one of them. `WriteFault` if the output failed or can't be cleared,
+/// isn't sorted though the order is `Sorted`, the fault has its number, the reason and the offset in the file. A file
+/// that lacks its end is refused as `NoEnd` at its length, unless a whole unit before is at fault. If several files are
+/// faulty, it is the fault of one of them. `WriteFault` if the output failed or can't be cleared,
 /// `TooLong` if a file has 2^62 bytes or more, `Memory` if memory ran out.
 pub fn run_files<'f, F: ReadAt, R: Input + Drop, W: ClearOutput, P: Progress>(
     alloc: Global,
@@ -95,9 +101,11 @@ pub fn run_files<'f, F: ReadAt, R: Input + Drop, W: ClearOutput, P: Progress>(
         IsFilesJob F.bytes R.can_give job files.entry.items change counts)) }
     ensures refused { IfErr result (RefusesFilesJob F.fails F.bytes R.can_give W.Output (W.can_clear out.old) job
         files.entry.items out.old out.new) }
+    ensures ended { OnOk result (list.All (EndsByRule F.bytes) files.entry.items) }
     ensures kept { W.can_clear out.old ≡ false → Grows (change_of W.Output out.old out.new) }
     ensures good { OnOk result (W.failed out.new ≡ false) }
 {
+    refuse_cut(alloc, job.order, files.as_slice())?;
     let can_begin_anew = may_begin_anew(job.order, out);
     let mut ways = ways_at_first(alloc, job.order, files.as_slice(), can_begin_anew)?;
     'turns: for turn in 1..TURNS {
@@ -138,8 +146,8 @@ fn copies<'f, F: ReadAt, R: Drop>(
     let mut copies = Vec::new(alloc);
     'files: for file in files {
         match file {
-            JobFile::File(file) => copies.push(JobFile::File(*file))?,
-            JobFile::Stream(_) => return Ok(None),
+            JobFile::File(file, end) => copies.push(JobFile::File(*file, *end))?,
+            JobFile::Stream(_, _) => return Ok(None),
         }
     }
     Ok(Some(copies))

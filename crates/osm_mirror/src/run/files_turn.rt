@@ -13,7 +13,7 @@ use crate::run::file_way::FileWay;
 use crate::run::files_job::{FilesJob, JobFile};
 use crate::run::input::InputFile;
 use crate::run::run_selected;
-use osm_files::{Fault, FileInput, FramedExtent, Input, Output, ReadAt};
+use osm_files::{EndRule, Fault, FileInput, FramedExtent, Input, Output, ReadAt};
 use osm_merge::{Counts, Progress};
 use std::alloc::Global;
 
@@ -72,41 +72,51 @@ fn push_inputs<'f, F: ReadAt, R: Input + Drop>(
     ensures memory { IfErr result (λ fault. fault ≡ memory_fault) }
 {
     match file {
-        JobFile::File(file) => push_runs(file, way, inputs),
-        JobFile::Stream(stream) => push_stream(stream, way, inputs),
+        JobFile::File(file, _) => push_runs(file, way, inputs),
+        JobFile::Stream(stream, end) => push_stream(stream, end, way, inputs),
     }
 }
 
-/// Appends a stream as one input.
+/// Appends a stream, which has to end as `end` requires, as one input.
 fn push_stream<'f, F: ReadAt, R: Input + Drop>(
     stream: R,
+    end: EndRule,
     way: &FileWay,
     inputs: &mut Vec<InputFile<FileInput<'f, F, R>>>,
 ) -> Result<(), Fault>
     ensures added { OnOk result (AddsFile F.fails F.bytes R.can_give (FileInputCanGive F.fails F.bytes R.can_give)
-        (JobFile.Stream stream) way.now inputs.old.items inputs.new.items) }
+        (JobFile.Stream stream end) way.now inputs.old.items inputs.new.items) }
     ensures memory { IfErr result (λ fault. fault ≡ memory_fault) }
 {
     let reader = FileInput::Stream(stream);
     let read_as = way.order.read_as();
-    Ok(inputs.push(InputFile { reader, read_as })?)
+    Ok(inputs.push(InputFile {
+        reader,
+        read_as,
+        end,
+    })?)
 }
 
-/// Appends the runs of a file, each as one input.
+/// Appends the runs of a file, each as one input. The end of the file was looked at before.
 fn push_runs<'f, F: ReadAt, R: Input + Drop>(
     file: &'f F,
     way: &FileWay,
     inputs: &mut Vec<InputFile<FileInput<'f, F, R>>>,
 ) -> Result<(), Fault>
-    ensures added { OnOk result (AddsFile F.fails F.bytes R.can_give (FileInputCanGive F.fails F.bytes R.can_give)
-        (JobFile.File file.entry) way.now inputs.old.items inputs.new.items) }
+    ensures added { OnOk result ((end : EndRule) → AddsFile F.fails F.bytes R.can_give
+        (FileInputCanGive F.fails F.bytes R.can_give) (JobFile.File file.entry end) way.now inputs.old.items
+        inputs.new.items) }
     ensures memory { IfErr result (λ fault. fault ≡ memory_fault) }
 {
     'runs: for index in 0..way.runs.len() {
         let run = way.runs[index];
         let reader = FileInput::Extent(FramedExtent::of_run(file, way.size, run));
         let read_as = way.order.read_as();
-        inputs.push(InputFile { reader, read_as })?;
+        inputs.push(InputFile {
+            reader,
+            read_as,
+            end: EndRule::Any,
+        })?;
     }
     Ok(())
 }

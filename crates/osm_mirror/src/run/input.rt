@@ -3,7 +3,7 @@ ghost use Rattle.std.specs.Prelude.{◌≡◌, map, IfOk, IfErr};
 ghost use Rattle.osm_files.specs.Fault.{memory_fault};
 ghost use Rattle.osm_mirror.specs.run.Given.{file_as};
 
-use osm_files::Fault;
+use osm_files::{EndRule, Fault};
 use osm_merge::{Outside, Span};
 use std::alloc::Global;
 
@@ -20,16 +20,18 @@ pub enum ReadAs {
     Within(Span, Outside),
 }
 
-/// A reader of a file, and the way in which the file's versions are read.
+/// A reader of a file, the way in which the file's versions are read, and the rule for the file's end.
 #[derive(Drop)]
 pub struct InputFile<R> {
     /// Gives the bytes of the file.
     pub reader: R,
     /// The order that its versions must have, or the span of those that count.
     pub read_as: ReadAs,
+    /// How an OPL file must end. Otherwise it is refused as `NoEnd`, at its length.
+    pub end: EndRule,
 }
 
-/// The files of `readers`, which are all read as `read_as`.
+/// The files of `readers`, which are all read as `read_as`, and may end after any byte.
 pub(crate) fn files_as<R: Drop>(
     alloc: Global,
     read_as: ReadAs,
@@ -40,7 +42,11 @@ pub(crate) fn files_as<R: Drop>(
 {
     let mut files = Vec::new(alloc);
     'inputs: for reader in readers {
-        files.push(InputFile { reader, read_as })?;
+        files.push(InputFile {
+            reader,
+            read_as,
+            end: EndRule::Any,
+        })?;
     }
     Ok(files)
 }

@@ -3,7 +3,7 @@ ghost use Rattle.std.specs.Prelude.{◌≡◌, ◌≢◌, Some, None, IfSome, Ma
 ghost use Rattle.opl_line.specs.Time.{reading_time};
 ghost use Rattle.osm_mirror.specs.declared.run.request.Command.{Command};
 ghost use Rattle.osm_mirror.specs.run.Request.{command_name, order_for, applied_selection, filtered_selection};
-ghost use Rattle.osm_mirror.specs.run.Request.{moment_of, selection_for, requested_job, required_end, end_of_file};
+ghost use Rattle.osm_mirror.specs.run.Request.{moment_of, selection_for, requested_job};
 
 use crate::run::files_job::{FilesJob, Order};
 use opl_line::read_time;
@@ -48,40 +48,6 @@ impl Command {
             "sort" => Some(Command::Sort),
             "time-filter" => Some(Command::TimeFilter),
             _ => None,
-        }
-    }
-}
-
-/// How an OPL file must end. So a file that was cut is noticed, unless it was cut where it may end.
-#[derive(Clone, Copy, Debug, PartialEq, Eq)]
-pub enum FileEnd {
-    /// The last line may lack its line feed.
-    Any,
-    /// The last line must have a line feed, as `--whole` requires.
-    LineFeed,
-    /// The last line must be the end mark, as `--ended` requires of a file that isn't regular.
-    Mark,
-}
-
-impl FileEnd {
-    /// The end that the options `--whole` and `--ended` require.
-    pub fn required(whole: bool, ended: bool) -> FileEnd
-        ensures { result ≡ required_end whole ended }
-    {
-        match (whole, ended) {
-            (_, true) => FileEnd::Mark,
-            (true, false) => FileEnd::LineFeed,
-            (false, false) => FileEnd::Any,
-        }
-    }
-
-    /// The end of a file. A regular one needs no mark.
-    pub fn of_file(self, is_regular: bool) -> FileEnd
-        ensures { result ≡ end_of_file self is_regular }
-    {
-        match self {
-            FileEnd::Mark if is_regular => FileEnd::LineFeed,
-            end => end,
         }
     }
 }

@@ -15,16 +15,18 @@ ghost use Rattle.osm_mirror.specs.run.Probes.{HaveBytes, Ascend};
 ghost use Rattle.osm_mirror.specs.run.ShardExtent.{IsExtentOf, IsInputOf, AreInputsOf};
 ghost use Rattle.osm_mirror.specs.run.ShardRefusal.{IsFileRefusal, IsFaultOfFile, IsFirstFault, AreRefused};
 ghost use Rattle.osm_mirror.specs.run.ShardRefusal.{RefusesSpan};
-ghost use Rattle.osm_mirror.specs.run.ShardRefusal.{RefusesShardJob, fault_in_extent};
+ghost use Rattle.osm_mirror.specs.run.ShardRefusal.{RefusesShardJob, IsFaultByRule, EndByRule, fault_in_extent};
 ghost use Rattle.osm_mirror.specs.run.ShardJob.{IsShardJob, IsSpanJob};
 ghost use Rattle.osm_mirror.specs.run.ShardSpan.{bound_after, span_of_number};
 
 use crate::run::bounds::{Found, bound, find_objects};
 use crate::run::check::run_check_sorted;
+use crate::run::file_end::refuse_cut_file;
+use crate::run::files_job::Order;
 use crate::run::shard::Shard;
 use crate::run::shard_extent::{FileExtent, extent_of};
 use crate::run::slice::{Slice, SliceFile, run_slice};
-use osm_files::{Broken, Fault, Format, FramedExtent, Output, ReadAt, Reason, SortedRun};
+use osm_files::{Broken, EndRule, Fault, Format, FramedExtent, Output, ReadAt, Reason, SortedRun};
 use osm_merge::{Counts, Progress, Selection, Span};
 use osm_model::Object;
 use std::alloc::Global;
@@ -44,6 +46,8 @@ pub struct ShardJob {
     pub selection: Selection,
     /// The format of the output.
     pub format: Format,
+    /// The rule for the end of each file, which needs no mark: see [`EndRule::of_file`].
+    pub end: EndRule,
 }
 
 /// Appends the one file that holds what a shard has of the selection of the versions of all files, each once.
@@ -51,13 +55,14 @@ pub struct ShardJob {
 /// The bounds of the shards are objects of the OPL files, and are the same for any order of the files. Of an OPL file
 /// only the lines within the shard are read, besides single lines that the search for the bounds reads. An o5 file, and
 /// a file of at most 4 KB, is read up to the upper bound. If there are fewer spans than shards, the last shards have no
-/// versions.
+/// versions. The job looks at the end of each file first. So the jobs of all shards are refused if a file is cut.
 ///
 /// # Errors
 ///
 /// The files are numbered from 0, and the number of the output is the number of files. If a file that is read can't be
 /// read or isn't sorted, the fault has its number, the reason and the offset in the file. If the file's bytes aren't a
-/// sorted file, this is their first fault, wherever it is, as without shards: the file is read once more up to there.
+/// sorted file, this is their first fault, wherever it is, as without shards: the file is read once more up to there. A
+/// file that lacks its end is refused as `NoEnd` at its length, unless a whole unit before is at fault.
 /// `WriteFault` if the output failed, `TooLong` if the OPL files together have 2^62 bytes or more, and `Memory` if
 /// memory ran out.
 pub fn run_shard<F: ReadAt, W: Output, P: Progress>(
@@ -72,9 +77,11 @@ pub fn run_shard<F: ReadAt, W: Output, P: Progress>(
         → IsShardJob job all held (change_of W.Output out.old out.new) counts) }
     ensures refused { IfErr result (RefusesShardJob (λ file. F.bytes file.now) (λ file. F.fails file.now) W.Output job
         files.now out.old out.new) }
+    ensures ended { OnOk result (EndByRule (λ file. F.bytes file.now) (λ file. F.fails file.now) job.end files.now) }
     ensures kept { Grows (change_of W.Output out.old out.new) }
     ensures good { OnOk result (IsGoodThroughout (change_of W.Output out.old out.new)) }
 {
+    refuse_cut_files(alloc, files, job.end)?;
     let span = match span_of_shard(alloc, files, job.shard) {
         Ok(span) => span,
         Err(fault) => return Err(first_fault(alloc, files, fault)),
@@ -83,6 +90,18 @@ pub fn run_shard<F: ReadAt, W: Output, P: Progress>(
         Ok(counts) => Ok(counts),
         Err(fault) => Err(first_fault(alloc, files, fault)),
     }
+}
+
+/// Refuses the files if one of them lacks the end that `end` asks for.
+fn refuse_cut_files<F: ReadAt>(alloc: Global, files: &[&F], end: EndRule) -> Result<(), Fault>
+    ensures ended { OnOk result (EndByRule (λ file. F.bytes file.now) (λ file. F.fails file.now) end files.now) }
+    ensures refused { IfErr result (AreRefused (λ file. F.bytes file.now) (λ file. F.fails file.now)
+        (IsFaultByRule end) files.now) }
+{
+    'files: for (input, file) in files.iter().enumerate() {
+        refuse_cut_file(alloc, Order::Sorted, *file, input, end)?;
+    }
+    Ok(())
 }
 
 /// The span of a shard, or none if there are fewer spans.

@@ -10,7 +10,7 @@ ghost use Rattle.osm_mirror.specs.run.SliceJob.{SliceFileCanGive, IsSliceJob, Re
 
 use crate::run::input::{InputFile, ReadAs};
 use crate::run::run_selected;
-use osm_files::{Fault, Format, Input, Output};
+use osm_files::{EndRule, Fault, Format, Input, Output};
 use osm_merge::{Counts, Outside, Progress, Selection, Span};
 use std::alloc::Global;
 
@@ -75,6 +75,7 @@ fn files_within<R: Drop>(
         files.push(InputFile {
             reader: file.reader,
             read_as: ReadAs::Within(span, file.outside),
+            end: EndRule::Any,
         })?;
     }
     Ok(files)

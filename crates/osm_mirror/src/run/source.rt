@@ -4,11 +4,11 @@ ghost use Rattle.std.specs.Prelude.{◌≡◌, [], ◌∷◌, ◌++◌, length, 
 ghost use Rattle.osm_files.specs.Fault.{memory_fault};
 ghost use Rattle.osm_merge.specs.Giving.{SomeInputsGive};
 ghost use Rattle.osm_files.specs.Input.{GivesOne};
-ghost use Rattle.osm_mirror.specs.run.Given.{InputFileCanGive, file_as, IsOpened, AreOpened, IsUnopened};
+ghost use Rattle.osm_mirror.specs.run.Given.{InputFileCanGive, file_by, IsOpened, AreOpened, IsUnopened};
 ghost use Rattle.osm_mirror.specs.declared.run.input.ReadAs.TheVariants as read_as;
 
 use crate::run::input::{InputFile, ReadAs};
-use osm_files::{Fault, FileSource, HistorySource, Input, Source, load_any};
+use osm_files::{Fault, FileSource, HistorySource, Input, Source, load_ended};
 use osm_merge::{Outside, Span, Within};
 use osm_model::Version;
 use std::alloc::Global;
@@ -109,9 +109,9 @@ fn open_input<R: Input + Drop>(
         IsUnopened input (given ∷ []) fault)) }
 {
     match file.read_as {
-        ReadAs::Sorted => stream(alloc, input, count, file.reader),
-        ReadAs::Any => load(alloc, input, file.reader),
-        ReadAs::Within(span, outside) => slice(alloc, input, count, span, outside, file.reader),
+        ReadAs::Sorted => stream(alloc, input, count, file),
+        ReadAs::Any => load(alloc, input, file),
+        ReadAs::Within(span, outside) => slice(alloc, input, count, span, outside, file),
     }
 }
 
@@ -120,12 +120,13 @@ fn stream<R: Input + Drop>(
     alloc: Global,
     input: usize,
     count: usize,
-    reader: R,
+    file: InputFile<R>,
 ) -> Result<InputSource<R>, Fault>
-    ensures opened { IfOk result (λ source. IsOpened R.can_give input (file_as read_as.Sorted reader) source) }
+    ensures opened { IfOk result (λ source.
+        IsOpened R.can_give input (file_by file.end read_as.Sorted file.reader) source) }
     ensures memory { IfErr result (λ fault. fault ≡ memory_fault) }
 {
-    let source = FileSource::with_peers(alloc, input, reader, count)?;
+    let source = FileSource::with_peers(alloc, input, file.end, file.reader, count)?;
     Ok(InputSource::Streamed(source))
 }
 
@@ -137,23 +138,28 @@ fn slice<R: Input + Drop>(
     count: usize,
     span: Span,
     outside: Outside,
-    reader: R,
+    file: InputFile<R>,
 ) -> Result<InputSource<R>, Fault>
     ensures opened { IfOk result (λ source.
-        IsOpened R.can_give input (file_as (read_as.Within span outside) reader) source) }
+        IsOpened R.can_give input (file_by file.end (read_as.Within span outside) file.reader) source) }
     ensures memory { IfErr result (λ fault. fault ≡ memory_fault) }
 {
-    let within = FileSource::with_peers(alloc, input, reader, count)?;
+    let within = FileSource::with_peers(alloc, input, file.end, file.reader, count)?;
     Ok(InputSource::Sliced(Within::new(outside, span, input, within)))
 }
 
 /// A file of any order as the source of the input number `input`. The call reads the file to its end.
-fn load<R: Input + Drop>(alloc: Global, input: usize, reader: R) -> Result<InputSource<R>, Fault>
-    ensures opened { IfOk result (λ source. IsOpened R.can_give input (file_as read_as.Any reader) source) }
+fn load<R: Input + Drop>(
+    alloc: Global,
+    input: usize,
+    file: InputFile<R>,
+) -> Result<InputSource<R>, Fault>
+    ensures opened { IfOk result (λ source.
+        IsOpened R.can_give input (file_by file.end read_as.Any file.reader) source) }
     ensures refused { IfErr result (λ fault.
-        GivesOne (InputFileCanGive R.can_give (file_as read_as.Any reader)) (λ given.
+        GivesOne (InputFileCanGive R.can_give (file_by file.end read_as.Any file.reader)) (λ given.
         IsUnopened input (given ∷ []) fault)) }
 {
-    let loaded = load_any(alloc, input, reader)?;
+    let loaded = load_ended(alloc, input, file.end, file.reader)?;
     Ok(InputSource::Held(HistorySource::new(loaded.history)))
 }

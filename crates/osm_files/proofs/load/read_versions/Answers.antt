@@ -4,7 +4,7 @@ use Rattle.std.proofs.lemmas.Result.{err_from_is_err_and}
 use Rattle.osm_model.specs.Data.{VersionData}
 use Rattle.osm_model.specs.Order.{key_cmp}
 use Rattle.osm_files.specs.Load.{format_of}
-use Rattle.osm_files.specs.Position.{Position, KnownPosition, with_rest, rest_of_bytes, units_or_failed, KeepsRest, at_start}
+use Rattle.osm_files.specs.Position.{Position, KnownPosition, with_rest, rest_of_bytes, units_or_failed, KeepsRest, at_start_with}
 use Rattle.osm_files.specs.Source.{SourceStep}
 use Rattle.osm_files.specs.Stream.{Placed}
 use Rattle.osm_files.proofs.LoadLaws.{LoadsOn, load_step, load_ends, load_stops, is_read, stops, stops_at_once, loads_begin}
@@ -20,7 +20,7 @@ units-init g c =
             z.0,
             subst (λ (v : Position _). g.R.Input.can_give v.rest z.0) c.requires.begins z.1,
             (
-              loads_begin (at_start c.args.reading.now.input (Some z.0)) (with_rest c.format.new.self later)
+              loads_begin (at_start_with c.args.reading.now.end c.args.reading.now.input (Some z.0)) (with_rest c.format.new.self later)
                   (subst (λ (q : KnownPosition). KeepsRest q (with_rest c.format.new.self later)) begins z.2.0) refl,
               subst (λ (q : KnownPosition). IfSome (rest_of_bytes q) (λ x. c.in_ok-format.format ≡ format_of x.bytes)) begins z.2.1,
             ),
@@ -37,7 +37,7 @@ units-preserved g c =
       loads = λ later k. (
           let y = (rw c.in-Some.is at c.in_ok-unit.ensures.step) later k in
           let x = c.units.invariant.loads y.0 y.1 in
-          let p = at_start c.args.reading.now.input (Some x.0) in
+          let p = at_start_with c.args.reading.now.end c.args.reading.now.input (Some x.0) in
           let on = load_step (units_or_failed p) vs (units_or_failed (with_rest c.units.reading y.0))
           (units_or_failed (with_rest c.next.new.self later)) x.2.0 u y.2 in (
             x.0,
@@ -58,22 +58,26 @@ returns-in_default-clause-read g c =
     let later = g.R.Input.one c.next.new.self.rest in
     let y = (rw c.in_default.is at c.in_ok-unit.ensures.step) later (g.R.Input.possible c.next.new.self.rest) in
     let x = c.units.invariant.loads y.0 y.1 in
-    let p = at_start c.args.reading.now.input (Some x.0) in
+    let p = at_start_with c.args.reading.now.end c.args.reading.now.input (Some x.0) in
     let all = load_ends (units_or_failed p) vs (units_or_failed (with_rest c.units.reading y.0))
-    (units_or_failed (with_rest c.next.new.self later)) x.2.0 y.2 in
-    (x.0, x.1, is_read c.args.reading.now.input x.0 c.in_ok-format.format vs c.units.sorted x.2.1 c.units.invariant.sorted all)
+    (units_or_failed (with_rest c.next.new.self later)) x.2.0 y.2 in (
+      x.0,
+      x.1,
+      is_read c.args.reading.now.end c.args.reading.now.input x.0 c.in_ok-format.format vs c.units.sorted x.2.1
+          c.units.invariant.sorted all,
+    )
 
 pub returns-in_err-unit-clause-refused : goal.returns-in_err-unit-clause-refused
 returns-in_err-unit-clause-refused g c =
     let later = g.R.Input.one c.next.new.self.rest in
     let y = c.in_err-unit.ensures.step later (g.R.Input.possible c.next.new.self.rest) in
     let x = c.units.invariant.loads y.0 y.1 in
-    let p = at_start c.args.reading.now.input (Some x.0) in
+    let p = at_start_with c.args.reading.now.end c.args.reading.now.input (Some x.0) in
     let e = err_from_is_err_and c.from_residual-in_err-unit.result c.from_residual-in_err-unit.ensures.1 in
     rw (e.1, e.2) ((
       x.0,
       x.1,
-      stops c.args.reading.now.input x.0 c.in_err-unit.field-0.0
+      stops c.args.reading.now.end c.args.reading.now.input x.0 c.in_err-unit.field-0.0
           (load_stops (units_or_failed p) c.units.versions.items (units_or_failed (with_rest c.units.reading y.0))
           (units_or_failed (with_rest c.next.new.self later)) x.2.0 c.in_err-unit.field-0.0 y.2),
     ))
@@ -88,8 +92,8 @@ returns-in_err-format-clause-refused g c =
     rw (e.1, e.2) ((
       y.0,
       subst (λ (v : Position _). g.R.Input.can_give v.rest y.0) c.requires.begins y.1,
-      stops c.args.reading.now.input y.0 c.in_err-format.field-0.0
-          (stops_at_once (units_or_failed (at_start c.args.reading.now.input (Some y.0)))
+      stops c.args.reading.now.end c.args.reading.now.input y.0 c.in_err-format.field-0.0
+          (stops_at_once (units_or_failed (at_start_with c.args.reading.now.end c.args.reading.now.input (Some y.0)))
           (units_or_failed (with_rest c.format.new.self later)) c.in_err-format.field-0.0 step),
     ))
 

@@ -1,7 +1,7 @@
 //! The texts about checked files.
 use super::{CheckedFile, CheckedJson, RefusedJson};
 use crate::{Checked, run_tally};
-use osm_files::{Fault, SliceIn};
+use osm_files::{EndRule, Fault, SliceIn};
 use std::alloc::Global;
 use std::fmt::Display;
 
@@ -16,7 +16,7 @@ fn is_text<D: Display + Drop>(alloc: Global, shown: D, text: &str) -> bool {
 
 /// The check of the file with these bytes.
 fn checked(alloc: Global, bytes: &[u8]) -> Result<Checked, Fault> {
-    run_tally(alloc, SliceIn::new(bytes))
+    run_tally(alloc, EndRule::Any, SliceIn::new(bytes))
 }
 
 #[test]

@@ -1,6 +1,6 @@
 //! Jobs over open files and streams, and the numbers of their turns.
 use super::{FilesJob, JobFile, Order, run_files};
-use osm_files::{Broken, ClearOutput, Format, Output, SliceIn, VecOut};
+use osm_files::{Broken, ClearOutput, EndRule, Format, Output, SliceIn, VecOut};
 use osm_merge::{Progress, Relation, Selection};
 use osm_model::Version;
 use std::alloc::Global;
@@ -96,9 +96,9 @@ fn files_of<'f>(
     for (index, file) in files.iter().enumerate() {
         let is_last = index + 1 == files.len();
         let _ = inputs.push(if has_stream && is_last {
-            JobFile::Stream(SliceIn::new(*file))
+            JobFile::Stream(SliceIn::new(*file), EndRule::Any)
         } else {
-            JobFile::File(file)
+            JobFile::File(file, EndRule::Any)
         });
     }
     inputs

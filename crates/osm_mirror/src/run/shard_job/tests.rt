@@ -1,7 +1,7 @@
 //! Jobs for shards.
 use super::{ShardJob, run_shard};
 use crate::run::shard::Shard;
-use osm_files::{Format, VecOut};
+use osm_files::{EndRule, Format, VecOut};
 use osm_merge::{NoProgress, Selection};
 use osm_model::Memory;
 use std::alloc::Global;
@@ -35,6 +35,7 @@ fn shard_texts(alloc: Global, files: &[&&[u8]], count: u64) -> String {
             shard,
             selection: Selection::All,
             format: Format::Opl,
+            end: EndRule::Any,
         };
         let mut out = VecOut::new(alloc);
         let _ = texts.push_str("|");

@@ -12,6 +12,7 @@ returns-in-Ok-eq0-clause-on g c =
     let is = c.self.view_is in
     let none : c.read.result ≡ Ok 0 = rw c.in-Ok-eq0.field-0-test at c.in-Ok-eq0.is in
     fill_ended can c.args.self.now _ [] c.requires.unended refl (ap (λ v. v.input) is) (ap (λ v. v.offset) is) (ap (λ v. v.stage) is)
+    (ap (λ v. v.end) is)
     (ap (λ v. v.failed) is) (ap (λ v. v.held) is ∙ sym (append-nil c.args.self.now.held)) refl
     (subst (λ (v : Position _). can v.rest (whole_input [])) is (c.read.ensures.end none (omega arith)))
 

@@ -1,5 +1,6 @@
 use Rattle.std.proofs.Common.{subst, inl}
 use Rattle.std.proofs.lemmas.Result.{err_from_is_err_and}
+use Rattle.osm_files.specs.EndRule.{by_rule}
 use Rattle.osm_merge.specs.ToCome as source
 use Rattle.osm_mirror.specs.run.Check.{IsCounted}
 use Rattle.osm_mirror.proofs.run_laws.CheckLaws.{report_is, set_refused}
@@ -11,7 +12,8 @@ returns-clause-checked g c =
     let n = c.in_ok-sizes.ensures.sizes in (
       h.0,
       h.1,
-      report_is h.0 c.in_ok-loaded.loaded c.new-source.result c.in_ok-sizes.sizes c.checked.result h.2 c.new-source.ensures
+      report_is (by_rule c.args.end h.0) c.in_ok-loaded.loaded c.new-source.result c.in_ok-sizes.sizes c.checked.result h.2
+          c.new-source.ensures
           (subst (λ (s : source.VersionsToCome). IsCounted s c.in_ok-sizes.sizes) n.1 n.2) c.checked.ensures,
     )
 

@@ -1,6 +1,7 @@
 use Rattle.std.proofs.Common.{◌≡◌, ◌⊎◌, subst, Some}
 use Rattle.osm_files.specs.Fault.{memory_fault}
 use Rattle.std.proofs.lemmas.Result.{err_from_is_err_and}
+use Rattle.osm_files.specs.EndRule.{by_rule}
 use Rattle.osm_merge.specs.ToCome as source
 use Rattle.osm_mirror.specs.run.Check.{IsCounted}
 use Rattle.osm_mirror.proofs.run_laws.CheckLaws.{sorted_report_is}
@@ -12,7 +13,7 @@ returns-clause-checked g c =
     let x = c.in_ok-format.ensures.opened n.0 n.1 in (
       x.0,
       x.1,
-      sorted_report_is x.0 c.in_ok-format.format c.in_ok-sizes.sizes c.checked.result x.2.0
+      sorted_report_is (by_rule c.args.end x.0) c.in_ok-format.format c.in_ok-sizes.sizes c.checked.result x.2.0
           (subst (λ (s : source.VersionsToCome). IsCounted s c.in_ok-sizes.sizes) x.2.1 n.2) c.checked.ensures,
     )
 

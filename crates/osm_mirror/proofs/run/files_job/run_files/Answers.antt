@@ -2,28 +2,42 @@ use Rattle.std.proofs.Common.{◌≡◌, ◌∙◌, true, inl, inr, IfErr, Some,
 use Rattle.std.proofs.lemmas.Result.{err_from_is_err_and}
 use Rattle.osm_mirror.specs.declared.run.files_job.Order.{Order}
 use Rattle.osm_mirror.specs.declared.run.files_job.Order.TheVariants.{Any}
-use Rattle.osm_mirror.specs.run.FilesRefusal.{AreRefused, AreSettled, IsFirstFound, IsFirstOf, IsOutputFault, RefusesTurn}
-use Rattle.osm_mirror.specs.run.FilesJob.{FilesFit}
+use Rattle.osm_mirror.specs.run.FilesRefusal.{AreRefused, AreRefusedByRule, AreSettled, IsFirstFound, IsFirstOf, IsOutputFault, RefusesTurn}
+use Rattle.std.specs.List.{All}
+use Rattle.osm_mirror.specs.run.FilesJob.{FilesFit, EndsByRule}
 use Rattle.osm_mirror.proofs.run_laws.TurnLaws.{starts_anew, keeps, grew_nothing, refused_before, loop_refused, loop_first}
-use Rattle.osm_mirror.proofs.run_laws.TurnLaws.{last_refused}
+use Rattle.osm_mirror.proofs.run_laws.TurnLaws.{last_refused, ends_refused}
 use Rattle.osm_mirror.proofs.run_laws.TurnLaws.{ways_refused, anew_refused}
 use Rattle.osm_mirror.proofs.run.files_job.run_files.Goals as goal
 
-pub returns-in_err-ways-clause-refused : goal.returns-in_err-ways-clause-refused
-returns-in_err-ways-clause-refused g c =
+pub returns-in_err-refuse_cut-clause-refused : goal.returns-in_err-refuse_cut-clause-refused
+returns-in_err-refuse_cut-clause-refused g c =
     let p = err_from_is_err_and c.from_residual.result c.from_residual.ensures.1 in
     rw (p.1, p.2)
+    (ends_refused g.F.ReadAt.fails g.F.ReadAt.bytes g.R.Input.can_give g.W.Output (g.W.ClearOutput.can_clear c.args.out.now) c.args.job
+    c.args.files.items c.args.out.now c.in_err-refuse_cut.field-0.0
+    (subst (λ fs. AreRefusedByRule g.F.ReadAt.fails g.F.ReadAt.bytes g.R.Input.can_give c.args.job.order fs c.in_err-refuse_cut.field-0.0)
+    c.as_slice.ensures.value c.in_err-refuse_cut.ensures.refused))
+
+pub returns-in_err-ways-clause-refused : goal.returns-in_err-ways-clause-refused
+returns-in_err-ways-clause-refused g c =
+    let p = err_from_is_err_and c.from_residual-in_err-ways.result c.from_residual-in_err-ways.ensures.1 in
+    rw (p.1, p.2)
     (refused_before g.F.ReadAt.fails g.F.ReadAt.bytes g.R.Input.can_give g.W.Output (g.W.ClearOutput.can_clear c.args.out.now) c.args.job
-    c.args.files.items c.args.out.now c.args.out.now c.in_err-ways.field-0.0 (inl refl)
+    c.args.files.items
+    (subst (All (EndsByRule g.F.ReadAt.bytes)) c.as_slice.ensures.value c.in_ok-refuse_cut.ensures.ended)
+    c.args.out.now c.args.out.now c.in_err-ways.field-0.0 (inl refl)
     (subst (λ fs. AreRefused g.F.ReadAt.fails g.F.ReadAt.bytes g.R.Input.can_give c.args.job.order fs c.in_err-ways.field-0.0)
-    c.as_slice.ensures.value c.in_err-ways.ensures.refused))
+    c.as_slice-2.ensures.value c.in_err-ways.ensures.refused))
 
 pub returns-in_err-again-clause-refused : goal.returns-in_err-again-clause-refused
 returns-in_err-again-clause-refused g c =
     let p = err_from_is_err_and c.from_residual-in_err-again.result c.from_residual-in_err-again.ensures.1 in
     rw (p.1, p.2)
     (refused_before g.F.ReadAt.fails g.F.ReadAt.bytes g.R.Input.can_give g.W.Output (g.W.ClearOutput.can_clear c.args.out.now) c.args.job
-    c.args.files.items c.args.out.now c.turns.out c.in_err-again.field-0.0 c.turns.invariant.1 (inl c.in_err-again.ensures.memory))
+    c.args.files.items
+    (subst (All (EndsByRule g.F.ReadAt.bytes)) c.as_slice.ensures.value c.in_ok-refuse_cut.ensures.ended)
+    c.args.out.now c.turns.out c.in_err-again.field-0.0 c.turns.invariant.1 (inl c.in_err-again.ensures.memory))
 
 pub returns-in_err-again-clause-kept : goal.returns-in_err-again-clause-kept
 returns-in_err-again-clause-kept g c =
@@ -39,7 +53,9 @@ returns-in_default-first_unsorted-clause-refused g c =
     let turn = subst (λ fs. IfErr c.run_turn-outcome.result (RefusesTurn g.F.ReadAt.fails g.F.ReadAt.bytes g.R.Input.can_give g.W.Output
     c.args.job fs c.as_slice-in-turns-2.result.now c.turns.out c.run_turn-outcome.new.out)) same c.run_turn-outcome.ensures.refused in
     loop_refused g.F.ReadAt.fails g.F.ReadAt.bytes g.R.Input.can_give g.W.Output (g.W.ClearOutput.can_clear c.args.out.now) c.args.job
-    c.args.files.items c.args.out.now
+    c.args.files.items
+    (subst (All (EndsByRule g.F.ReadAt.bytes)) c.as_slice.ensures.value c.in_ok-refuse_cut.ensures.ended)
+    c.args.out.now
     c.as_slice-in-turns-2.result.now c.turns.out c.run_turn-outcome.new.out c.run_turn-outcome.result may.0 may.1
     (subst (λ ways. IsFirstFound c.run_turn-outcome.result ways None)
     (c.as_slice-in-turns-3.ensures.value ∙ sym c.as_slice-in-turns-2.ensures.value) c.in_default-first_unsorted.ensures) turn
@@ -61,7 +77,9 @@ ways_after-requires-clause-first g c =
     let found = rw c.in-Some-first_unsorted.is at c.first_unsorted.ensures in
     subst (λ fs. IsFirstOf g.F.ReadAt.bytes fs c.in-Some-first_unsorted.first) (sym c.as_slice-in-turns-4.ensures.value)
     (loop_first g.F.ReadAt.fails g.F.ReadAt.bytes g.R.Input.can_give g.W.Output (g.W.ClearOutput.can_clear c.args.out.now) c.args.job
-    c.args.files.items c.args.out.now
+    c.args.files.items
+    (subst (All (EndsByRule g.F.ReadAt.bytes)) c.as_slice.ensures.value c.in_ok-refuse_cut.ensures.ended)
+    c.args.out.now
     c.as_slice-in-turns-2.result.now c.turns.out c.run_turn-outcome.new.out c.run_turn-outcome.result c.in-Some-first_unsorted.first
     may.1
     (subst (FilesFit g.F.ReadAt.bytes c.args.job.order c.args.files.items) (sym c.as_slice-in-turns-2.ensures.value) c.turns.invariant.0)
@@ -75,7 +93,9 @@ returns-in_err-ways-2-clause-refused g c =
     let p = err_from_is_err_and c.from_residual-in_err-ways-2.result c.from_residual-in_err-ways-2.ensures.1 in
     rw (p.1, p.2)
     (ways_refused g.F.ReadAt.fails g.F.ReadAt.bytes g.R.Input.can_give g.W.Output (g.W.ClearOutput.can_clear c.args.out.now) c.args.job
-    c.args.files.items c.args.out.now c.run_turn-outcome.new.out c.in_err-ways-2.field-0.0 may.0 may.1
+    c.args.files.items
+    (subst (All (EndsByRule g.F.ReadAt.bytes)) c.as_slice.ensures.value c.in_ok-refuse_cut.ensures.ended)
+    c.args.out.now c.run_turn-outcome.new.out c.in_err-ways-2.field-0.0 may.0 may.1
     (subst (λ fs. AreRefused g.F.ReadAt.fails g.F.ReadAt.bytes g.R.Input.can_give Any fs c.in_err-ways-2.field-0.0)
     c.as_slice-in-turns-4.ensures.value c.in_err-ways-2.ensures.refused))
 
@@ -86,7 +106,9 @@ returns-in_err-clear-clause-refused g c =
     let p = err_from_is_err_and c.from_residual-in_err-clear.result c.from_residual-in_err-clear.ensures.1 in
     rw (p.1, p.2)
     (anew_refused g.F.ReadAt.fails g.F.ReadAt.bytes g.R.Input.can_give g.W.Output (g.W.ClearOutput.can_clear c.args.out.now) c.args.job
-    c.args.files.items c.args.out.now c.clear.new.out c.in_err-clear.field-0.0 may.0 may.1
+    c.args.files.items
+    (subst (All (EndsByRule g.F.ReadAt.bytes)) c.as_slice.ensures.value c.in_ok-refuse_cut.ensures.ended)
+    c.args.out.now c.clear.new.out c.in_err-clear.field-0.0 may.0 may.1
     (inr (inr (subst (λ n. IsOutputFault n c.in_err-clear.field-0.0)
     (c.len.ensures ∙ sym c.as_slice-in-turns-4.ensures.len ∙ ap length c.as_slice-in-turns-4.ensures.value)
     c.in_err-clear.ensures.fault))))
@@ -109,9 +131,11 @@ returns-in_err-settled-clause-refused g c =
     let p = err_from_is_err_and c.from_residual-in_err-settled.result c.from_residual-in_err-settled.ensures.1 in
     rw (p.1, p.2)
     (refused_before g.F.ReadAt.fails g.F.ReadAt.bytes g.R.Input.can_give g.W.Output (g.W.ClearOutput.can_clear c.args.out.now) c.args.job
-    c.args.files.items c.args.out.now c.turns.out c.in_err-settled.field-0.0 c.turns.invariant.1
+    c.args.files.items
+    (subst (All (EndsByRule g.F.ReadAt.bytes)) c.as_slice.ensures.value c.in_ok-refuse_cut.ensures.ended)
+    c.args.out.now c.turns.out c.in_err-settled.field-0.0 c.turns.invariant.1
     (subst (λ fs. AreRefused g.F.ReadAt.fails g.F.ReadAt.bytes g.R.Input.can_give c.args.job.order fs c.in_err-settled.field-0.0)
-    c.as_slice-2.ensures.value c.in_err-settled.ensures.refused))
+    c.as_slice-3.ensures.value c.in_err-settled.ensures.refused))
 
 pub returns-in_err-settled-clause-kept : goal.returns-in_err-settled-clause-kept
 returns-in_err-settled-clause-kept g c =
@@ -122,6 +146,8 @@ returns-in_err-settled-clause-kept g c =
 pub returns-clause-refused : goal.returns-clause-refused
 returns-clause-refused g c =
     last_refused g.F.ReadAt.fails g.F.ReadAt.bytes g.R.Input.can_give g.W.Output (g.W.ClearOutput.can_clear c.args.out.now) c.args.job
-    c.args.files.items c.args.out.now
-    c.as_slice-3.result.now c.turns.out c.run_turn.new.out c.run_turn.result c.turns.invariant.1
-    (subst AreSettled (sym c.as_slice-3.ensures.value) c.in_ok-settled.ensures.settled) c.run_turn.ensures.refused
+    c.args.files.items
+    (subst (All (EndsByRule g.F.ReadAt.bytes)) c.as_slice.ensures.value c.in_ok-refuse_cut.ensures.ended)
+    c.args.out.now
+    c.as_slice-4.result.now c.turns.out c.run_turn.new.out c.run_turn.result c.turns.invariant.1
+    (subst AreSettled (sym c.as_slice-4.ensures.value) c.in_ok-settled.ensures.settled) c.run_turn.ensures.refused

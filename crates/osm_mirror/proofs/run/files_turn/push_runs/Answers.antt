@@ -1,7 +1,8 @@
-use Rattle.std.proofs.Common.{◌≡◌, ◌∙◌, ◌+◌, List, [], ◌∷◌, ◌++◌, take, arith, sym, ap, subst, append_assoc}
+use Rattle.std.proofs.Common.{◌≡◌, ◌∙◌, ◌+◌, List, [], ◌∷◌, ◌++◌, take, arith, refl, sym, ap, subst, append_assoc}
 use Rattle.std.proofs.lemmas.List.{take_all}
 use Rattle.osm_model.specs.Pairwise.{Pairwise}
 use Rattle.osm_model.proofs.PairwiseLaws.{pairwise_push}
+use Rattle.osm_files.specs.declared.end_rule.EndRule.TheVariants.{Any}
 use Rattle.osm_files.specs.declared.file_input.FileInput.TheVariants.{Extent}
 use Rattle.osm_files.specs.declared.sorted_run.SortedRun.{SortedRun}
 use Rattle.osm_files.specs.FileInput.{FileInputCanGive}
@@ -18,7 +19,7 @@ runs-preserved g c =
     OpensRun gives (g.F.ReadAt.fails c.args.file.now) (g.F.ReadAt.bytes c.args.file.now) way.size way.order in
     let index = c.runs.index in
     let run = c.index-run.result.now in
-    let file : InputFile _ = record { reader = Extent c.of_run.result; read_as = c.read_as-read_as.result } in
+    let file : InputFile _ = record { reader = Extent c.of_run.result; read_as = c.read_as-read_as.result; end = Any } in
     let so_far = c.runs.invariant in
     let more : take (index + 1) way.runs.items ≡ take index way.runs.items ++ run ∷ [] =
     front_at way.runs.items index run (omega (arith, c.runs-test.true, c.len-index-end.ensures)) c.index-run.ensures in (
@@ -28,11 +29,12 @@ runs-preserved g c =
           (pairwise_push Opens so_far.0 (take index way.runs.items) file run so_far.2 (record {
             gives_run = λ given x. (c.of_run.ensures given).0 x;
             order_is = c.read_as-read_as.ensures;
+            end_is = refl;
           })),
     )
 
 pub returns-clause-added : goal.returns-clause-added
-returns-clause-added g c =
+returns-clause-added g c end =
     let gives = FileInputCanGive g.F.ReadAt.fails g.F.ReadAt.bytes g.R.Input.can_give in
     let way = c.args.way.now in
     let Opens : InputFile _ → SortedRun → Type 0 =

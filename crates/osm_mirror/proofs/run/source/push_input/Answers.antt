@@ -1,5 +1,6 @@
 use Rattle.std.proofs.Common.{rules, ◌≡◌, length, refl, subst, inl}
 use Rattle.std.proofs.lemmas.Result.{err_from_is_err_and}
+use Rattle.osm_files.specs.EndRule.{by_rule}
 use Rattle.osm_mirror.specs.run.Given.{IsOpened}
 use Rattle.osm_mirror.proofs.run.source.push_input.Goals as goal
 
@@ -7,7 +8,11 @@ pub returns-in_err-push-clause-refused : goal.returns-in_err-push-clause-refused
 returns-in_err-push-clause-refused g c =
     let file = c.args.file in
     let p = err_from_is_err_and c.from_residual-in_err-push.result c.from_residual-in_err-push.ensures.1 in
-    rw (p.1) ((file.read_as, g.R.Input.one file.reader), (refl, g.R.Input.possible file.reader), inl p.2)
+    rw (p.1) (
+      (file.read_as, by_rule file.end (g.R.Input.one file.reader)),
+      (refl, (g.R.Input.one file.reader, g.R.Input.possible file.reader, refl)),
+      inl p.2,
+    )
 
 pub returns-clause-pushed : goal.returns-clause-pushed
 returns-clause-pushed g c =
