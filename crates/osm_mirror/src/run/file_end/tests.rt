@@ -6,6 +6,9 @@ use osm_files::{EndRule, Fault, Format, SliceIn, VecOut};
 use osm_merge::{Counts, NoProgress, Selection};
 use std::alloc::Global;
 
+/// A node.
+const GOOD: &[u8] = b"n7 v1 dD\n";
+
 /// A job's result, and the number of bytes that it wrote.
 fn text_of(alloc: Global, outcome: Result<Counts, Fault>, out: VecOut) -> String {
     let mut text = String::new(alloc);
@@ -24,23 +27,35 @@ fn text_of(alloc: Global, outcome: Result<Counts, Fault>, out: VecOut) -> String
     text
 }
 
-/// A job over a good file and `file`, which has to end as `end` requires.
-fn job_text(alloc: Global, order: Order, end: EndRule, file: &[u8], is_stream: bool) -> String {
-    let good = b"n7 v1 dD\n".as_slice();
+/// The files of a job: a good one and another one, which may be a stream. They have to end as `end` requires.
+fn files_of<'f>(
+    alloc: Global,
+    files: &'f [&'f [u8]],
+    end: EndRule,
+    is_stream: bool,
+) -> Vec<JobFile<'f, &'f [u8], SliceIn<'f>>> {
+    let mut inputs = Vec::new(alloc);
+    for (index, file) in files.iter().enumerate() {
+        let input = if is_stream && index > 0 {
+            JobFile::Stream(SliceIn::new(*file), end)
+        } else {
+            JobFile::File(file, end)
+        };
+        let _ = inputs.push(input);
+    }
+    inputs
+}
+
+/// A job over two files, which have to end as `end` requires.
+fn job_text(alloc: Global, order: Order, end: EndRule, files: &[&[u8]], is_stream: bool) -> String {
     let run = FilesJob {
         selection: Selection::All,
         order,
         format: Format::Opl,
     };
-    let mut files = Vec::new(alloc);
-    let _ = files.push(JobFile::File(&good, end));
-    let _ = files.push(if is_stream {
-        JobFile::Stream(SliceIn::new(file), end)
-    } else {
-        JobFile::File(&file, end)
-    });
+    let inputs = files_of(alloc, files, end, is_stream);
     let mut out = VecOut::new(alloc);
-    let outcome = run_files(alloc, run, files, &mut out, &mut NoProgress);
+    let outcome = run_files(alloc, run, inputs, &mut out, &mut NoProgress);
     text_of(alloc, outcome, out)
 }
 
@@ -115,7 +130,7 @@ fn cut_files_are_refused(rt: HostRuntime) {
         ),
     ] {
         assert_eq!(rt;
-            job_text(rt.alloc(), order, end, file, is_stream).as_str(),
+            job_text(rt.alloc(), order, end, &[GOOD, file], is_stream).as_str(),
             text
         );
     }
