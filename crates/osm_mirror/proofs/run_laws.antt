@@ -26,3 +26,6 @@ pub mod FileExtentLaws
 pub mod ShardSpanLaws
 pub mod SpanJobLaws
 pub mod ShardJobLaws
+pub mod ShardTextLaws
+pub mod NamesLaws
+pub mod JobInputLaws
