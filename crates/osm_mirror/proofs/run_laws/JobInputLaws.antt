@@ -1,5 +1,6 @@
 -- The files of a job over the inputs before an index.
-use Rattle.std.proofs.Common.{◌≡◌, ◌≢◌, ℕ, ◌+◌, ◌<◌, ◌≤◌, true, false, Bor, List, [], ◌∷◌, ◌++◌, Option, Some, None, length, get_or, drop, refl, sym, ap, ◌∙◌, subst, arith, add-one, append_assoc, cond, zero-add}
+use Rattle.std.proofs.Common.{◌≡◌, ◌≢◌, ℕ, ◌+◌, ◌<◌, ◌≤◌, Bor, List, [], ◌∷◌, ◌++◌, Some, None, length, get_or, drop, cond}
+use Rattle.std.proofs.Common.{refl, sym, ap, ◌∙◌, arith, add-one, append_assoc, zero-add}
 use Rattle.std.proofs.lemmas.List.{drop_all, append-nil}
 use Rattle.std.proofs.Math.Seq.{drop-cons}
 use Rattle.std.proofs.lemmas.List.Sums.{sum_by-cons}
@@ -26,12 +27,14 @@ from_index inputs index input below is =
 -- the number of streams among one more input and others
 with_stream : {N F : Type 0} (input : JobInput N F) (others : List (JobInput N F)) → input.regular ≡ None
     → count_by is_stream (input ∷ others) ≡ 1 + count_by is_stream others
-with_stream input others none = sum_by-cons (λ i. cond (is_stream i) 1 0) input others ∙ ap (λ r. cond (is_absent r) 1 0 + count_by is_stream others) none
+with_stream input others none =
+    sum_by-cons (λ i. cond (is_stream i) 1 0) input others ∙ ap (λ r. cond (is_absent r) 1 0 + count_by is_stream others) none
 
 with_file : {N F : Type 0} (input : JobInput N F) (others : List (JobInput N F)) (file : F) → input.regular ≡ Some file
     → count_by is_stream (input ∷ others) ≡ count_by is_stream others
 with_file input others file there =
-    sum_by-cons (λ i. cond (is_stream i) 1 0) input others ∙ (ap (λ r. cond (is_absent r) 1 0 + count_by is_stream others) there ∙ zero-add _)
+    sum_by-cons (λ i. cond (is_stream i) 1 0) input others
+    ∙ (ap (λ r. cond (is_absent r) 1 0 + count_by is_stream others) there ∙ zero-add _)
 
 -- before the first input
 pub nothing : {N F R : Type 0} (inputs : List (JobInput N F)) (streams : List R) → SoFar inputs 0 streams streams []
@@ -62,7 +65,8 @@ module _ {N F R : Type 0} (inputs : List (JobInput N F)) (index : ℕ) (streams 
       record {
         files_are = λ more are.
             rw (append_assoc files (file ∷ []) more) (so_far.files_are (file ∷ more) (rw here (others, one, are)));
-        counted = counted_more (count_by is_stream inputs) (length streams) input (drop (index + 1) inputs) rest others file one (rw here at so_far.counted);
+        counted = counted_more (count_by is_stream inputs) (length streams) input (drop (index + 1) inputs) rest others
+            file one (rw here at so_far.counted);
       }
 
   -- there is no file for the input

@@ -1,5 +1,6 @@
 -- The names among the texts between the NULs of a list.
-use Rattle.std.proofs.Common.{◌≡◌, ◌⊎◌, inl, inr, ℕ, zero, suc, ◌+◌, ◌-◌, ◌<◌, ◌≤◌, Bool, true, false, List, [], ◌∷◌, ◌++◌, length, get_or, take, drop, refl, sym, ◌∙◌, ap, arith, add-one, length-take, length-drop, length-append, lit<}
+use Rattle.std.proofs.Common.{◌≡◌, ◌⊎◌, inl, inr, ℕ, zero, suc, ◌+◌, ◌-◌, ◌<◌, ◌≤◌, Bool, true, false, List, [], ◌∷◌, ◌++◌}
+use Rattle.std.proofs.Common.{length, get_or, take, drop, refl, sym, ◌∙◌, ap, arith, add-one, length-take, length-drop, length-append}
 use Rattle.std.proofs.lemmas.Bool.{cases_lt}
 use Rattle.std.proofs.lemmas.List.{take_all, take-append-drop, get_or-take, drop_all, get_or_push}
 use Rattle.std.proofs.lemmas.List.Elements.{All-from_get_or}
@@ -26,8 +27,10 @@ around texts n below empty =
 pub ended : (texts : List (List ℕ)) → 0 < length texts → get_or texts (length texts - 1) [] ≡ [] → IsEnded texts
 ended texts some empty =
     let last : length texts - 1 < length texts = omega arith in
-    let none = drop_all (length texts - 1 + 1) texts (omega arith) in
-    (take (length texts - 1) texts, around texts (length texts - 1) last empty ∙ ap (λ rest. take (length texts - 1) texts ++ [] ∷ rest) none)
+    let none = drop_all (length texts - 1 + 1) texts (omega arith) in (
+      take (length texts - 1) texts,
+      around texts (length texts - 1) last empty ∙ ap (λ rest. take (length texts - 1) texts ++ [] ∷ rest) none,
+    )
 
 -- the last one of texts that are ended is empty
 pub last_of_ended : (texts : List (List ℕ)) → IsEnded texts → get_or texts (length texts - 1) [] ≡ []

@@ -21,8 +21,8 @@ pub struct JobInput<N, F> {
     pub end: EndRule,
 }
 
-/// The files of a job over `inputs`, one for each, in their order: the regular file of the input, or if it has none, the
-/// next one of `streams`.
+/// The files of a job over `inputs`, one for each, in their order: the regular file of the input, or if it has none,
+/// the next one of `streams`.
 ///
 /// # Errors
 ///

@@ -1,5 +1,6 @@
 //! Lists of names of files.
-ghost use Rattle.std.specs.Prelude.{IsTrue, ◌≡◌, ◌⊎◌, ◌↔◌, ◌<◌, ◌≤◌, ◌-◌, ℕ, [], length, take, slice_index_or, IfOk, IfErr};
+ghost use Rattle.std.specs.Prelude.{IsTrue, ◌≡◌, ◌⊎◌, ◌↔◌, ◌<◌, ◌≤◌, ◌-◌, ℕ, [], length, take, slice_index_or};
+ghost use Rattle.std.specs.Prelude.{IfOk, IfErr};
 ghost use Rattle.osm_mirror.specs.run.Names.{SpellsNames, AreNames, IsNamesFault, IsTextsFault};
 ghost use Rattle.osm_mirror.specs.run.Names.{between_nuls, texts_of};
 ghost use Rattle.osm_mirror.specs.declared.run.names.NamesFault.TheVariants as why;

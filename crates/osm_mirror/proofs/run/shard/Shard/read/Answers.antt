@@ -1,4 +1,4 @@
-use Rattle.std.proofs.Common.{◌≡◌, ℕ, None, lit<, arith, refl, sym, ◌∙◌, rules}
+use Rattle.std.proofs.Common.{◌≡◌, ◌≤◌, ℕ, None, lit<, arith, refl, sym, ◌∙◌, rules}
 use Rattle.osm_mirror.specs.run.Shard.{SpellsShard}
 use Rattle.osm_mirror.proofs.run_laws.ShardTextLaws.{slash_in, numbers_in}
 use Rattle.osm_mirror.proofs.run.shard.Shard.read.Goals as goal
@@ -28,5 +28,7 @@ returns-in-Some-Some-clause-none c =
     let numbers = numbers_in c.args.text.now _ _ number count at.0 at.1 s in
     let one : number ≡ c.in-Some-Some.number = numbers.0.value ∙ sym c.in-Some-Some.ensures.number.value in
     let two : count ≡ c.in-Some-Some.count = numbers.1.value ∙ sym c.in-Some-Some.ensures'.number.value in
-    let some = rw none at (c.new.ensures.some.1 (omega (arith, one, s.first), omega (arith, one, two, s.within), omega (arith, two, s.few))) in
+    let first : 1 ≤ c.in-Some-Some.number = omega (arith, one, s.first) in
+    let within : c.in-Some-Some.number ≤ c.in-Some-Some.count = omega (arith, one, two, s.within) in
+    let some = rw none at (c.new.ensures.some.1 (first, within, omega (arith, two, s.few))) in
     cc
