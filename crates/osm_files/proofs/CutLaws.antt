@@ -1,6 +1,6 @@
 -- The faults of files whose end is missing.
-use Rattle.std.proofs.Common.{◌≡◌, ◌⊎◌, inl, inr, ⊎_elim, ℕ, ◌≤◌, ◌<◌, ◌^◌, Bool, true, false, not, List, ◌++◌, length, refl, sym, ap}
-use Rattle.std.proofs.Common.{◌∙◌, subst, arith, Option, Some, None, option_map, length-append}
+use Rattle.std.proofs.Common.{◌≡◌, ◌⊎◌, inl, inr, ⊎_elim, ℕ, ◌≤◌, ◌<◌, ◌^◌, true, not, List, ◌++◌, length, refl, sym, ap}
+use Rattle.std.proofs.Common.{◌∙◌, subst, arith, Option, Some, None, length-append}
 use Rattle.std.proofs.lemmas.Bool.{cases_lt, false≢true}
 use Rattle.osm_files.specs.declared.end_rule.EndRule.{EndRule}
 use Rattle.osm_files.specs.declared.fault.Fault.{Fault}
@@ -9,7 +9,6 @@ use Rattle.osm_files.specs.declared.reason.Reason.TheVariants.{ReadFault, NoEnd}
 use Rattle.osm_files.specs.declared.sorted_run.SortedRun.{SortedRun}
 use Rattle.osm_files.specs.EndRule.{lacks_its_end, cut_if, by_rule}
 use Rattle.osm_files.specs.Extent.{RunCanGive}
-use Rattle.osm_files.specs.FileRuns.{IsReadFailure}
 use Rattle.osm_files.specs.Groups.{sorted_source}
 use Rattle.osm_files.specs.Input.{InputRest, whole_input, broken_input, failed_after}
 use Rattle.osm_files.specs.Load.{StopsOpening, StopsLoading}
@@ -24,21 +23,18 @@ use Rattle.osm_files.proofs.FaultyLaws.{faulty_or_closed, faulty_within_stays, m
 use Rattle.osm_files.proofs.HoldLaws.{source_refusal, failed_source_ends}
 use Rattle.osm_files.proofs.LoadFaults.{failed_inputs, failed_units}
 use Rattle.osm_files.proofs.RunBytes.{run_given}
-use Rattle.osm_files.proofs.RunOrderLaws.{broken_fails, mapped_fault, run_front}
+use Rattle.osm_files.proofs.RunOrderLaws.{broken_fails, mapped_fault, run_front, FailsWithin, failed_there}
 
 -- a read failed, the bytes are too many, or the fault is this verdict
 abbrev pub CutFault : (Fails : Type 0) → ℕ → List ℕ → Option Verdict → Fault → Type 0
 CutFault Fails input bytes verdict fault =
-    IsReadFailure Fails fault ⊎ (2 ^ 62 ≤ length bytes) ⊎ ((v : Verdict) × (verdict ≡ Some v) × (fault ≡ fault_of input v))
+    FailsWithin Fails bytes fault ⊎ (2 ^ 62 ≤ length bytes) ⊎ ((v : Verdict) × (verdict ≡ Some v) × (fault ≡ fault_of input v))
 
 -- the first fault of bytes whose end is missing, whatever their order
 abbrev pub cut_refusal : List ℕ → Option Verdict
 cut_refusal bytes = (units_from None 0 (failed_after NoEnd bytes)).refusal
 
 module _ (Fails : Type 0) (fails : Fails) (input : ℕ) (bytes more : List ℕ) (fault : Fault) where
-  read_fault : (v : Verdict) → v ≡ verdict_at (length bytes) ReadFault → fault ≡ fault_of input v → IsReadFailure Fails fault
-  read_fault v at is = inr (fails, ap (λ f. f.reason) is ∙ ap (λ v. v.reason) at)
-
   front_sorted : (sorted_source input (broken_input bytes)).refusal ≡ Some fault
       → CutFault Fails input (bytes ++ more) (input_verdict (failed_after NoEnd (bytes ++ more))) fault
   front_sorted e = elim (cases_lt (length (bytes ++ more)) (2 ^ 62)) [
@@ -58,7 +54,7 @@ module _ (Fails : Type 0) (fails : Fails) (input : ℕ) (bytes more : List ℕ) 
         (λ closed. (
         let same : Some close ≡ Some found.0 = sym (closed close) ∙ found.1 in
         let at : found.0 ≡ close = cc in
-        inl (read_fault found.0 at found.2)))
+        inl (failed_there Fails input bytes more found.0 fault fails at found.2)))
         (faulty_or_closed bytes))
   ]
 
@@ -81,7 +77,7 @@ module _ (Fails : Type 0) (fails : Fails) (input : ℕ) (bytes more : List ℕ) 
         (λ closed. (
         let same : Some (verdict_at (length bytes) ReadFault) ≡ Some v = sym closed.2 ∙ e in
         let at : v ≡ verdict_at (length bytes) ReadFault = cc in
-        inl (read_fault v at is)))
+        inl (failed_there Fails input bytes more v fault fails at is)))
         rest)
         (failed_inputs ReadFault bytes)
   ]

@@ -12,7 +12,7 @@ use Rattle.osm_files.specs.declared.end_rule.EndRule.{EndRule}
 use Rattle.osm_files.specs.declared.end_rule.EndRule.TheVariants.{Any, LineFeed, Mark}
 use Rattle.osm_files.specs.declared.end_rule.EndTest.{EndTest}
 use Rattle.osm_files.specs.EndRule.{end_mark, last_seven, start_bytes, is_o5_start}
-use Rattle.osm_files.specs.EndRule.{rule_after, test_after, lacks_by, lacks_end, new_test, ends_well, lacks_its_end, lacks_by_ends}
+use Rattle.osm_files.specs.EndRule.{rule_after, test_after, lacks_by, lacks_end, new_test, lacks_its_end, lacks_by_ends}
 
 -- ---- the last bytes
 drop_joined : (n : ℕ) (xs ys : List ℕ) → drop n (xs ++ ys) ≡ drop n xs ++ drop (n - length xs) ys

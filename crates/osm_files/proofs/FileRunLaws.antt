@@ -18,8 +18,8 @@ use Rattle.osm_files.specs.declared.set_order.SetOrder.{SetOrder}
 use Rattle.osm_files.specs.declared.set_order.SetOrder.TheVariants.{Rises, Falls, Unknown}
 use Rattle.osm_files.specs.declared.sorted_run.BytesAtSplit.{BytesAtSplit}
 use Rattle.osm_files.specs.declared.sorted_run.SortedRun.{SortedRun}
-use Rattle.osm_files.specs.FileRuns.{GivesSortedFile, IsSortedRun, EndsWhole, StopsSource, IfWhole, IsAccepted, LastIsSorted}
-use Rattle.osm_files.specs.FileRuns.{IsAcceptedRun, IsSortedIfAccepted, IsFirstUnsorted, IsFirstUnsortedIn, IsReadFailure, IsRefusalOf}
+use Rattle.osm_files.specs.FileRuns.{GivesSortedFile, IsSortedRun, EndsWhole, StopsSource, IfWhole, IsAccepted}
+use Rattle.osm_files.specs.FileRuns.{IsAcceptedRun, IsSortedIfAccepted, IsFirstUnsortedIn, IsReadFailure, IsRefusalOf}
 use Rattle.osm_files.specs.FileRuns.{IsOrderOf, is_lines}
 use Rattle.osm_files.specs.RunBreaks.{IsSortedByKeys, BreaksAt, IsBreakOf}
 use Rattle.osm_files.specs.KeyOrder.{bytes_between, IsOrderOfLines}
@@ -275,123 +275,69 @@ module _ (known : Option (List ℕ)) (size : ℕ) (old new : FileRuns) (offset :
 
 -- ---- the runs that were found so far
 -- what is known of the runs that were split off a file, and of the rest
-pub record Found (all : List ℕ) (first known : Option ℕ) (runs : FileRuns) : Type 0 where
-  pub sorted : IfSome first (IsFirstUnsorted all) → All (IsSortedIfAccepted all) runs.fronts
+pub record Found (all : List ℕ) (runs : FileRuns) : Type 0 where
+  pub sorted : All (IsSortedIfAccepted all) runs.fronts
   pub accepted : IsAccepted all → All (IsAcceptedRun all) runs.fronts
-  pub unsorted : IfSome first (IsFirstUnsorted all) → IfSome known (λ offset. offset < 2 ^ 64 → IsFirstUnsortedIn all runs.rest offset)
   pub rest : IsAccepted all → IsAcceptedRun all runs.rest
 
-first_in_whole : (all : List ℕ) (first : Option ℕ) → length all < 2 ^ 64 → IfSome first (IsFirstUnsorted all)
-    → IfSome first (λ offset. offset < 2 ^ 64 → IsFirstUnsortedIn all whole_run offset)
-first_in_whole all None short unsorted = tt
-first_in_whole all (Some offset) short unsorted = λ small. (
-  offset,
-  subst (λ bytes. IsFirstUnsorted bytes offset) (sym (whole_file all short)) unsorted,
-  omega (arith, small),
-)
-
 -- Before the first split the rest is the whole file.
-pub found_nothing : (known : Option (List ℕ)) (size : ℕ) (first : Option ℕ) → size < 2 ^ 64
-    → IfWhole known size (λ all. Found all first first (record { fronts = []; rest = whole_run }))
-found_nothing None size first fits = tt
-found_nothing (Some all) size first fits = λ whole.
+pub found_nothing : (known : Option (List ℕ)) (size : ℕ) → size < 2 ^ 64
+    → IfWhole known size (λ all. Found all (record { fronts = []; rest = whole_run }))
+found_nothing None size fits = tt
+found_nothing (Some all) size fits = λ whole.
     let short : length all < 2 ^ 64 = omega (arith, fits, whole) in
     record {
-      sorted = λ right. All-nil (IsSortedIfAccepted all);
+      sorted = All-nil (IsSortedIfAccepted all);
       accepted = λ accepted. All-nil (IsAcceptedRun all);
-      unsorted = first_in_whole all first short;
       rest = subst IsAccepted (sym (whole_file all short));
     }
 
--- the order of a run, if its first version out of order is known or was read
-abbrev pub Knows : Type 0 → Option (List ℕ) → ℕ → SortedRun → Option ℕ → Result (Option ℕ) Fault → Type 0
-Knows Fails file size run known result = IfSome known (λ offset. result ≡ Ok (Some offset))
-    × (known ≡ None → IfWhole file size (λ all. IsBreakOf Fails all run result))
+-- the order of a run of a file
+abbrev pub Breaks : Type 0 → Option (List ℕ) → ℕ → SortedRun → Result (Option ℕ) Fault → Type 0
+Breaks Fails file size run result = IfWhole file size (λ all. IsBreakOf Fails all run result)
 
--- The order of a run is that of an equal one.
-pub knows : (Fails : Type 0) (file : Option (List ℕ)) (size : ℕ) (run rest : SortedRun) (told known : Option ℕ) (result now : Result
-    (Option ℕ) Fault)
-    → run ≡ rest → told ≡ known → result ≡ now → IfSome told (λ offset. result ≡ Ok (Some offset))
-    → (told ≡ None → IfWhole file size (λ all. IsBreakOf Fails all run result)) → Knows Fails file size rest known now
-knows Fails file size run rest told known result now is same left first order =
-    subst (λ (r : SortedRun). Knows Fails file size r known now) is
-    (subst (λ (o : Option ℕ). Knows Fails file size run o now) same
-    (subst (λ (r : Result (Option ℕ) Fault). Knows Fails file size run told r) left (first, order)))
-
-unsorted_by : (Fails : Type 0) (all : List ℕ) (size : ℕ) (runs : FileRuns) (known : Option ℕ) (offset : ℕ) → length all ≡ size
-    → offset < 2 ^ 64 → Knows Fails (Some all) size runs.rest known (let r : _ = Ok (Some offset) in r)
-    → IfSome known (λ first. first < 2 ^ 64 → IsFirstUnsortedIn all runs.rest first) → BreaksAt all runs.rest offset
-unsorted_by Fails all size runs None offset whole small (told, read) before = read refl whole
-unsorted_by Fails all size runs (Some known) offset whole small (told, read) before =
-    let same : offset ≡ known = (let f : Ok (Some offset) ≡ Ok (Some known) = told in cc) in
-    inl (subst (λ (first : ℕ). first < 2 ^ 64 → IsFirstUnsortedIn all runs.rest first) (sym same) before small)
-
--- A split at the first version out of order leaves runs that are found.
-pub found_more : (Fails : Type 0) (file : Option (List ℕ)) (size : ℕ) (first known : Option ℕ) (old new : FileRuns) (offset : ℕ)
-    → offset < 2 ^ 64
-    → IfWhole file size (λ all. Found all first known old) → Knows Fails file size old.rest known (let r : _ = Ok (Some offset) in r)
+-- A split where the order of the rest breaks leaves runs that are found.
+pub found_more : (Fails : Type 0) (file : Option (List ℕ)) (size : ℕ) (old new : FileRuns) (offset : ℕ)
+    → IfWhole file size (λ all. Found all old) → Breaks Fails file size old.rest (let r : _ = Ok (Some offset) in r)
     → IfWhole file size (λ all. BreaksAt all old.rest offset → All (IsSortedIfAccepted all) old.fronts
     → All (IsSortedIfAccepted all) new.fronts)
     → IfWhole file size (λ all. IsAcceptedRun all old.rest → All (IsAcceptedRun all) old.fronts → All (IsAcceptedRun all) new.fronts)
     → IfWhole file size (λ all. IsAcceptedRun all old.rest → IsAcceptedRun all new.rest)
-    → IfWhole file size (λ all. Found all first None new)
-found_more Fails None size first known old new offset small found knows fronts files rest = tt
-found_more Fails (Some all) size first known old new offset small found knows fronts files rest = λ whole.
+    → IfWhole file size (λ all. Found all new)
+found_more Fails None size old new offset found breaks fronts files rest = tt
+found_more Fails (Some all) size old new offset found breaks fronts files rest = λ whole.
     let before = found whole in
     record {
-      sorted = λ right. fronts whole (unsorted_by Fails all size old known offset whole small knows (before.unsorted right)) (before.sorted
-          right);
-      unsorted = λ right. tt;
+      sorted = fronts whole (breaks whole) before.sorted;
       accepted = λ accepted. files whole (before.rest accepted) (before.accepted accepted);
       rest = λ accepted. rest whole (before.rest accepted);
     }
 
-sorted_by : (Fails : Type 0) (all : List ℕ) (size : ℕ) (runs : FileRuns) (known : Option ℕ) → length all ≡ size
-    → Knows Fails (Some all) size runs.rest known (let r : _ = Ok None in r) → IsSortedIfAccepted all runs.rest
-sorted_by Fails all size runs None whole (told, read) = read refl whole
-sorted_by Fails all size runs (Some known) whole (told, read) = absurd (let f : Ok None ≡ Ok (Some known) = told in cc)
-
-module _ (Fails : Type 0) (size : ℕ) (old : FileRuns) (known first : Option ℕ) (runs : List SortedRun) (are : runs ≡ runs_of old) where
+module _ (Fails : Type 0) (size : ℕ) (old : FileRuns) (runs : List SortedRun) (are : runs ≡ runs_of old) where
   with_rest : (P : SortedRun → Type 0) → All P old.fronts → P old.rest → All P runs
   with_rest P fronts rest =
       subst (All P) (sym are) (All-append P old.fronts (old.rest ∷ []) fronts (All-cons P old.rest [] rest (All-nil P)))
 
   -- If the order of the rest doesn't break, all runs are sorted files, if they are accepted.
-  pub all_sorted : (file : Option (List ℕ)) → IfWhole file size (λ all. Found all first known old)
-      → Knows Fails file size old.rest known (let r : _ = Ok None in r)
-      → IfWhole file size (λ all. IfSome first (IsFirstUnsorted all) → All (IsSortedIfAccepted all) runs)
-  all_sorted None found knows = tt
-  all_sorted (Some all) found knows = λ whole right.
-      with_rest (IsSortedIfAccepted all) ((found whole).sorted right) (sorted_by Fails all size old known whole knows)
-
-  -- The last run is a sorted file, if it is accepted.
-  pub last_sorted : (file : Option (List ℕ)) → Knows Fails file size old.rest known (let r : _ = Ok None in r)
-      → IfWhole file size (λ all. LastIsSorted all runs)
-  last_sorted None knows = tt
-  last_sorted (Some all) knows = λ whole. (old.fronts, old.rest, are, sorted_by Fails all size old known whole knows)
+  pub all_sorted : (file : Option (List ℕ)) → IfWhole file size (λ all. Found all old)
+      → Breaks Fails file size old.rest (let r : _ = Ok None in r) → IfWhole file size (λ all. All (IsSortedIfAccepted all) runs)
+  all_sorted None found breaks = tt
+  all_sorted (Some all) found breaks = λ whole. with_rest (IsSortedIfAccepted all) (found whole).sorted (breaks whole)
 
   -- The runs of an accepted file are accepted.
-  pub all_accepted : (file : Option (List ℕ)) → IfWhole file size (λ all. Found all first known old)
+  pub all_accepted : (file : Option (List ℕ)) → IfWhole file size (λ all. Found all old)
       → IfWhole file size (λ all. IsAccepted all → All (IsAcceptedRun all) runs)
   all_accepted None found = tt
   all_accepted (Some all) found = λ whole accepted.
       with_rest (IsAcceptedRun all) ((found whole).accepted accepted) ((found whole).rest accepted)
 
-refused_by : (Fails : Type 0) (all : List ℕ) (size : ℕ) (first known : Option ℕ) (runs : FileRuns) (fault : Fault) → length all ≡ size
-    → Found all first known runs → Knows Fails (Some all) size runs.rest known (let r : _ = Err fault in r) → IsRefusalOf Fails all fault
-refused_by Fails all size first None runs fault whole found (told, read) =
-    ⊎_elim (λ failure. inl failure) (λ never. inr (λ accepted. never (found.rest accepted))) (read refl whole)
-refused_by Fails all size first (Some known) runs fault whole found (told, read) =
-    absurd (let r : Result (Option ℕ) Fault = Err fault in let f : r ≡ Ok (Some known) = told in cc)
-
 -- A refusal of the rest is a refusal of the file.
-pub refused_rest : (Fails : Type 0) (file : Option (List ℕ)) (size : ℕ) (first known : Option ℕ) (runs : FileRuns) (fault : Fault)
-    → IfWhole file size (λ all. Found all first known runs) → Knows Fails file size runs.rest known (let r : _ = Err fault in r)
+pub refused_rest : (Fails : Type 0) (file : Option (List ℕ)) (size : ℕ) (runs : FileRuns) (fault : Fault)
+    → IfWhole file size (λ all. Found all runs) → Breaks Fails file size runs.rest (let r : _ = Err fault in r)
     → IfWhole file size (λ all. IsRefusalOf Fails all fault)
-refused_rest Fails None size first known runs fault found knows = tt
-refused_rest Fails (Some all) size first known runs fault found knows = λ whole. refused_by Fails all size first known runs fault whole
-    (found whole)
-    knows
+refused_rest Fails None size runs fault found breaks = tt
+refused_rest Fails (Some all) size runs fault found breaks = λ whole.
+    ⊎_elim (λ failure. inl failure) (λ never. inr (λ accepted. never ((found whole).rest accepted))) (breaks whole)
 
 -- A failure to read is a refusal of the file.
 pub failed_rest : (Fails : Type 0) (file : Option (List ℕ)) (size : ℕ) (fault : Fault)

@@ -8,6 +8,7 @@ mod SearchLaws
 mod StepLaws
 mod StayLaws
 mod BufferLaws
+mod BufferedLaws
 mod EndRuleLaws
 pub mod FailureLaws
 mod FillLaws

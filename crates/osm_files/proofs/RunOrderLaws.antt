@@ -1,5 +1,5 @@
 -- The order of a run's versions, and the refusals of a run, by what its input gave.
-use Rattle.std.proofs.Common.{◌≡◌, ◌⊎◌, inl, inr, ⊎_elim, ℕ, ◌+◌, ◌-◌, ◌≤◌, ◌<◌, ◌^◌, nat_lt, Bool, true, false, cond, List, []}
+use Rattle.std.proofs.Common.{◌≡◌, ◌⊎◌, inl, inr, ⊎_elim, ℕ, ◌+◌, ◌-◌, ◌≤◌, ◌<◌, ◌^◌, nat_lt, true, false, cond, List, []}
 use Rattle.std.proofs.Common.{◌∷◌, ◌++◌, length, take, refl, sym, ap, ◌∙◌, subst, arith, Option, Some, None, option_map}
 use Rattle.std.proofs.Common.{append-nil, append_assoc, length-append, length-drop, min, is_some}
 use Rattle.std.proofs.Math.Seq.{take-append-add}
@@ -11,7 +11,7 @@ use Rattle.osm_files.specs.declared.reason.Reason.{Reason}
 use Rattle.osm_files.specs.declared.reason.Reason.TheVariants.{Memory, Unsorted, ReadFault}
 use Rattle.osm_files.specs.declared.sorted_run.SortedRun.{SortedRun}
 use Rattle.osm_files.specs.Extent.{RunCanGive}
-use Rattle.osm_files.specs.Fault.{fault_at}
+use Rattle.osm_files.specs.Fault.{fault_at, memory_fault}
 use Rattle.osm_files.specs.FileRuns.{GivesSortedFile, IsSortedRun, IfWhole, IsAccepted, IsReadFailure, IsFirstUnsortedIn, IsRefusalOf}
 use Rattle.osm_files.specs.Groups.{sorted_source}
 use Rattle.osm_files.specs.Held.{HoldsSorted}
@@ -91,10 +91,29 @@ long_stays bytes more many =
     ap (λ (s : SourceRest Placed Verdict). sorted_verdict s.refusal None s.list)
     (long_units (bytes ++ more) longer ∙ (λ i. units (Some too_long_verdict) (starts i) 0 (window i)) ∙ sym (long_units bytes many))
 
+-- the fault is out of memory; or reads of the file may fail, and the fault is that one did, at an offset within the bytes
+abbrev pub FailsWithin : Type 0 → List ℕ → Fault → Type 0
+FailsWithin Fails bytes fault = (fault ≡ memory_fault) ⊎ (Fails × (fault.reason ≡ ReadFault) × (fault.place ≤ length bytes))
+
+pub failure_of : (Fails : Type 0) (bytes : List ℕ) (fault : Fault) → FailsWithin Fails bytes fault → IsReadFailure Fails fault
+failure_of Fails bytes fault (inl memory) = inl memory
+failure_of Fails bytes fault (inr (fails, read, within)) = inr (fails, read)
+
+-- a read failed after the front `bytes` of some bytes
+pub failed_there : (Fails : Type 0) (input : ℕ) (bytes more : List ℕ) (v : Verdict) (fault : Fault) → Fails
+    → v ≡ verdict_at (length bytes) ReadFault → fault ≡ fault_of input v → FailsWithin Fails (bytes ++ more) fault
+failed_there Fails input bytes more v fault fails at is =
+    let there : fault.place ≡ length bytes = ap (λ f. f.place) is ∙ ap (λ v. v.place) at in
+    inr (
+      fails,
+      ap (λ f. f.reason) is ∙ ap (λ v. v.reason) at,
+      omega (arith, there, length-append bytes more),
+    )
+
 -- the fault is a failure to read, or the verdict on order of these bytes
 abbrev pub Refuses : Type 0 → ℕ → List ℕ → Fault → Type 0
 Refuses Fails input bytes fault =
-    IsReadFailure Fails fault ⊎ ((v : Verdict) × (verdict_sorted bytes ≡ Some v) × (fault ≡ fault_of input v))
+    FailsWithin Fails bytes fault ⊎ ((v : Verdict) × (verdict_sorted bytes ≡ Some v) × (fault ≡ fault_of input v))
 
 -- Reads of a file fail if a run of it gives fewer bytes than it has.
 pub broken_fails : (Fails : Type 0) (all : List ℕ) (run : SortedRun) (size : ℕ) (c : InputRest) → length all ≡ size
@@ -123,7 +142,7 @@ module _ (Fails : Type 0) (fails : Fails) (input : ℕ) (bytes more : List ℕ) 
       (λ closed. (
       let same : Some close ≡ Some found.0 = sym (closed close) ∙ found.1 in
       let is : close ≡ found.0 = cc in
-      inl (inr (fails, ap (λ f. f.reason) found.2 ∙ ap (λ v. v.reason) (sym is)))))
+      inl (failed_there Fails input bytes more found.0 fault fails (sym is) found.2)))
       (faulty_or_closed bytes)
 
   broken_refuses : (sorted_source input (broken_input bytes)).refusal ≡ Some fault → Refuses Fails input (bytes ++ more) fault
@@ -206,7 +225,8 @@ module _ (Fails : Type 0) (all : List ℕ) (run : SortedRun) (input offset : ℕ
   -- A run that is refused as unsorted has its first version out of order there.
   unsorted_there : Refuses Fails input (run_bytes run all) fault → fault.reason ≡ Unsorted → offset ≡ offset_in_file run fault.place
       → IsFirstUnsortedIn all run offset
-  unsorted_there (inl failure) unsorted is = absurd (failure_is_other Fails fault failure unsorted)
+  unsorted_there (inl failure) unsorted is =
+      absurd (failure_is_other Fails fault (failure_of Fails (run_bytes run all) fault failure) unsorted)
   unsorted_there (inr (v, e, same)) unsorted is =
       let there : v ≡ verdict_at fault.place Unsorted =
       (λ i. verdict_at ((sym (ap (λ f. f.place) same)) i) ((sym (ap (λ f. f.reason) same) ∙ unsorted) i)) in
@@ -215,7 +235,8 @@ module _ (Fails : Type 0) (all : List ℕ) (run : SortedRun) (input offset : ℕ
   -- A run that is refused for another reason is no file, or a read failed.
   refused_there : Refuses Fails input (run_bytes run all) fault → (fault.reason ≡ Unsorted → ⊥)
       → IsRefusalOf Fails (run_bytes run all) (fault_at input offset fault.reason)
-  refused_there (inl failure) other = inl (moved_failure Fails input offset fault failure)
+  refused_there (inl failure) other =
+      inl (moved_failure Fails input offset fault (failure_of Fails (run_bytes run all) fault failure))
   refused_there (inr (v, e, same)) other =
       inr (verdict_refuses (run_bytes run all) v e (λ unsorted. other (ap (λ f. f.reason) same ∙ unsorted)))
 
@@ -263,40 +284,59 @@ accepted_whole bytes v e (held, holds) =
     let none : verdict bytes ≡ None = (files_are_read bytes holds.versions holds.short holds.file).0 in
     (let f : None ≡ Some v = sym none ∙ e in cc)
 
+-- a read failed, the bytes are too many, or the fault is their first one, whatever their order
+abbrev pub Named : Type 0 → ℕ → List ℕ → Fault → Type 0
+Named Fails input bytes fault = FailsWithin Fails bytes fault
+    ⊎ (2 ^ 62 ≤ length bytes) ⊎ ((v : Verdict) × (verdict bytes ≡ Some v) × (fault ≡ fault_of input v))
+
 module _ (Fails : Type 0) (all : List ℕ) (run : SortedRun) (size input : ℕ) (fault : Fault) (whole : length all ≡ size) where
   broken_units : (bytes more : List ℕ) (v : Verdict) → Fails → (units_from None 0 (broken_input bytes)).refusal ≡ Some v
-      → fault ≡ fault_of input v → IsRefusalOf Fails (bytes ++ more) fault
+      → fault ≡ fault_of input v → Named Fails input (bytes ++ more) fault
   broken_units bytes more v fails e is =
       ⊎_elim
-      (λ long. inr (λ accepted. (
-      let short = accepted.1.short in
-      absurd (omega (arith, short, long.0, length-append bytes more)))))
+      (λ long. (let many = long.0 in inr (inl (omega (arith, many, length-append bytes more)))))
       (λ short. ⊎_elim
-      (λ faulty. inr (accepted_whole (bytes ++ more) faulty.0 (malformed_stays bytes more faulty.0 faulty.1 faulty.2)))
+      (λ faulty. (
+      let same : Some faulty.0 ≡ Some v = sym faulty.4 ∙ e in
+      inr (inr (v, malformed_stays bytes more faulty.0 faulty.1 faulty.2 ∙ same, is))))
       (λ closed. (
       let same : Some (verdict_at (length bytes) ReadFault) ≡ Some v = sym closed.2 ∙ e in
-      let at : verdict_at (length bytes) ReadFault ≡ v = cc in
-      inl (inr (fails, ap (λ f. f.reason) is ∙ ap (λ v. v.reason) (sym at)))))
+      let at : v ≡ verdict_at (length bytes) ReadFault = cc in
+      inl (failed_there Fails input bytes more v fault fails at is)))
       short)
       (failed_inputs ReadFault bytes)
 
   given_units : (bytes : List ℕ) (failure : Option Reason)
       → RunCanGive Fails (Some all) run size (record { bytes = bytes; failure = failure })
       → (with_input input (units_from None 0 (record { bytes = bytes; failure = failure }))).refusal ≡ Some fault
-      → IsRefusalOf Fails (run_bytes run all) fault
+      → Named Fails input (run_bytes run all) fault
   given_units bytes (Some reason) gives e =
       let front = run_front Fails all run size reason bytes gives in
       let fails = broken_fails Fails all run size (failed_after reason bytes) whole gives reason refl in
       let found = mapped_fault input (units_from None 0 (broken_input bytes)).refusal fault
       ((λ i. (with_input input (units_from None 0 (failed_after (sym fails.1 i) bytes))).refusal) ∙ e) in
-      subst (λ xs. IsRefusalOf Fails xs fault) (sym front.1) (broken_units bytes front.0 found.0 fails.0 found.1 found.2)
+      subst (λ xs. Named Fails input xs fault) (sym front.1) (broken_units bytes front.0 found.0 fails.0 found.1 found.2)
   given_units bytes None gives e =
       let found = mapped_fault input (verdict bytes) fault (sym (inputs_are_files input bytes).1 ∙ e) in
       let same : bytes ≡ run_bytes run all = run_given Fails all run size (whole_input bytes) whole gives refl in
-      inr (accepted_whole (run_bytes run all) found.0 (ap verdict (sym same) ∙ found.1))
+      inr (inr (found.0, ap verdict (sym same) ∙ found.1, found.2))
+
+-- A run whose units are refused has the refusal as its verdict, is too long, or a read failed.
+pub units_named : (Fails : Type 0) (all : List ℕ) (run : SortedRun) (size input : ℕ) (fault : Fault) (c : InputRest) → length all ≡ size
+    → RunCanGive Fails (Some all) run size c → (with_input input (units_from None 0 c)).refusal ≡ Some fault
+    → Named Fails input (run_bytes run all) fault
+units_named Fails all run size input fault c whole = given_units Fails all run size input fault whole c.bytes c.failure
+
+named_refused : (Fails : Type 0) (input : ℕ) (bytes : List ℕ) (fault : Fault) → Named Fails input bytes fault
+    → IsRefusalOf Fails bytes fault
+named_refused Fails input bytes fault (inl failure) = inl (failure_of Fails bytes fault failure)
+named_refused Fails input bytes fault (inr (inl long)) = inr (λ accepted. (
+    let short = accepted.1.short in absurd (omega (arith, short, long))))
+named_refused Fails input bytes fault (inr (inr (v, e, is))) = inr (accepted_whole bytes v e)
 
 -- A run whose units are refused is no file, or a read failed.
 pub units_refuse : (Fails : Type 0) (all : List ℕ) (run : SortedRun) (size input : ℕ) (fault : Fault) (c : InputRest) → length all ≡ size
     → RunCanGive Fails (Some all) run size c → (with_input input (units_from None 0 c)).refusal ≡ Some fault
     → IsRefusalOf Fails (run_bytes run all) fault
-units_refuse Fails all run size input fault c whole = given_units Fails all run size input fault whole c.bytes c.failure
+units_refuse Fails all run size input fault c whole gives e =
+    named_refused Fails input (run_bytes run all) fault (units_named Fails all run size input fault c whole gives e)

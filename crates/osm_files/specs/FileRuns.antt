@@ -1,5 +1,5 @@
 -- The runs that are found in a file: own rules of this project.
-use Rattle.std.specs.Prelude.{◌≡◌, ◌⊎◌, ℕ, Bool, false, not, ◌||◌, List, [], ◌∷◌, ◌++◌, length, Option, Some, None}
+use Rattle.std.specs.Prelude.{◌≡◌, ◌⊎◌, ℕ, Bool, not, ◌||◌, List, length, Option, Some, None}
 use Rattle.std.specs.Prelude.{IfSome, Result, Ok, Err}
 use Rattle.osm_model.specs.Data.{VersionData}
 use Rattle.osm_model.specs.VersionSet.{VersionSet}
@@ -45,11 +45,6 @@ IsAcceptedRun file run = IsAccepted (run_bytes run file)
 -- if the bytes of the run of this file are accepted, they are a sorted file
 abbrev pub IsSortedIfAccepted : List ℕ → SortedRun → Type 0
 IsSortedIfAccepted file run = IsAcceptedRun file run → IsSortedRun file run
-
--- the last of the runs of this file is a sorted file, if it is accepted
-abbrev pub LastIsSorted : List ℕ → List SortedRun → Type 0
-LastIsSorted file runs =
-    (fronts : List SortedRun) × (last : SortedRun) × (runs ≡ fronts ++ last ∷ []) × IsSortedIfAccepted file last
 
 -- the first version whose key is below the key of the version before it begins at this offset of the bytes
 abbrev pub IsFirstUnsorted : List ℕ → ℕ → Type 0

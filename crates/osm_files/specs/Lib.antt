@@ -4,7 +4,7 @@ pub mod Fault
 pub mod Input
 pub mod EndRule
 pub mod Output
-pub mod Clear
+pub mod CutBack
 pub mod Change
 pub mod Stream
 pub mod Source

@@ -1,5 +1,5 @@
 -- The position of a reading of units in its input, and the rest from there.
-use Rattle.std.specs.Prelude.{◌≡◌, ◌⊎◌, ℕ, ◌≤◌, ◌+◌, ◌-◌, Bool, nat_lt, List, ◌∷◌, ◌++◌, ◌^◌, [], length, take, true}
+use Rattle.std.specs.Prelude.{◌≡◌, ◌⊎◌, ℕ, ◌≤◌, ◌+◌, ◌-◌, Bool, nat_lt, List, ◌∷◌, ◌++◌, ◌^◌, [], length, take}
 use Rattle.std.specs.Prelude.{false, Option, Some, None, option_map, IfSome, is_some, slice_get, Result, Ok, Err}
 use Rattle.std.specs.Prelude.{if◌then◌else◌}
 use Rattle.osm_files.specs.declared.fault.Fault.{Fault}

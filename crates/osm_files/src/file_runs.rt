@@ -5,9 +5,9 @@ ghost use Rattle.std.specs.Prelude.{IfOk, IfErr, OnOk, OnErr, IfSome};
 ghost use Rattle.std.specs.List.{All};
 ghost use Rattle.osm_files.specs.declared.reason.Reason.TheVariants.{ReadFault};
 ghost use Rattle.osm_files.specs.Fault.{IsOfFile};
-ghost use Rattle.osm_files.specs.FileRuns.{EndsWhole, StopsSource, GivesSortedFile, IfWhole, LastIsSorted};
+ghost use Rattle.osm_files.specs.FileRuns.{EndsWhole, StopsSource, GivesSortedFile, IfWhole};
 ghost use Rattle.osm_files.specs.FileRuns.{IsSortedRun, IsAccepted, IsAcceptedRun, IsSortedIfAccepted};
-ghost use Rattle.osm_files.specs.FileRuns.{IsFirstUnsorted, is_lines, IsReadFailure, IsRefusalOf, IsOrderOf};
+ghost use Rattle.osm_files.specs.FileRuns.{is_lines, IsReadFailure, IsRefusalOf, IsOrderOf};
 ghost use Rattle.osm_files.specs.Input.{GivesOne};
 ghost use Rattle.osm_files.specs.Load.{StopsOpening};
 ghost use Rattle.osm_files.specs.RunBreaks.{IsSortedByKeys, BreaksAt, IsBreakOf};
@@ -26,8 +26,7 @@ use crate::source::{FileSource, Source};
 use crate::split_file::SplitFile;
 use std::alloc::Global;
 
-/// Finds the sorted runs of `file`, which has `size` bytes. `input` is the file's number. `first` is the offset of the
-/// file's first version that is out of order, if it is known.
+/// Finds the sorted runs of `file`, which has `size` bytes. `input` is the file's number.
 ///
 /// The result is `None` if there are more than `most` runs, or if the file can't be split where its order breaks. An o5
 /// file can only be split at a reset.
@@ -37,11 +36,9 @@ use std::alloc::Global;
 /// here. A line of another form is read whole. If a data set has another form, its run is read whole.
 ///
 /// The lines of OPL are read once, but a line that a window cuts is read again. The keys of an o5 file are read twice.
-/// If `first` is known, the bytes of OPL before it aren't read, and the keys of o5 before it are read once.
 ///
-/// Each run is a sorted file if it is accepted in any order, if the file has the bytes that its reads return, it has
-/// `size` bytes, and `first` is right. The last run is read to its end, so this is true of it whether `first` is right
-/// or not. The runs of an accepted file are accepted.
+/// Each run is a sorted file if it is accepted in any order, if the file has the bytes that its reads return, and it
+/// has `size` bytes. The runs of an accepted file are accepted.
 ///
 /// # Errors
 ///
@@ -52,15 +49,12 @@ pub fn find_runs<F: ReadAt>(
     file: &F,
     input: usize,
     size: u64,
-    first: Option<u64>,
     most: usize,
 ) -> Result<Option<Vec<SortedRun>>, Fault>
     ensures runs { IfOk result (λ found. IfSome found (λ runs. IfSome (F.bytes file.now) (λ all.
         length all < 2 ^ 64 → spec.IsSplitIntoRuns all runs.items))) }
-    ensures last { IfOk result (λ found. IfSome found (λ runs.
-        IfWhole (F.bytes file.now) size (λ all. LastIsSorted all runs.items))) }
     ensures sorted { IfOk result (λ found. IfSome found (λ runs. IfWhole (F.bytes file.now) size (λ all.
-        IfSome first (IsFirstUnsorted all) → All (IsSortedIfAccepted all) runs.items))) }
+        All (IsSortedIfAccepted all) runs.items))) }
     ensures accepted { IfOk result (λ found. IfSome found (λ runs. IfWhole (F.bytes file.now) size (λ all.
         IsAccepted all → All (IsAcceptedRun all) runs.items))) }
     ensures few { IfOk result (λ found. IfSome found (λ runs. length runs.items ≤ most)) }
@@ -69,10 +63,8 @@ pub fn find_runs<F: ReadAt>(
         IfWhole (F.bytes file.now) size (λ all. IsRefusalOf (F.fails file.now) all fault)) }
 {
     let mut split = SplitFile::new(alloc);
-    let mut known = first;
     'runs: for done in 0..most {
-        let unsorted = first_unsorted(alloc, file, input, size, split.rest(), known.take())?;
-        let Some(offset) = unsorted else {
+        let Some(offset) = find_break(alloc, file, input, size, split.rest())? else {
             return Ok(Some(split.into_runs()?));
         };
         if !split_before(alloc, file, input, size, &mut split, offset)? {
@@ -188,31 +180,6 @@ fn is_sorted_whole<F: ReadAt>(
         Err(fault) if fault.reason == Reason::ReadFault => Err(fault),
         Err(fault) if fault.reason == Reason::Memory => Err(Fault::memory()),
         Err(_) => Ok(false),
-    }
-}
-
-/// The offset in the file of the first version of a run whose key is below that of the version before it. If that
-/// offset is `known`, nothing is read.
-///
-/// # Errors
-///
-/// The fault of the run, at its offset in the file; or `Memory`.
-fn first_unsorted<F: ReadAt>(
-    alloc: Global,
-    file: &F,
-    input: usize,
-    size: u64,
-    run: SortedRun,
-    known: Option<u64>,
-) -> Result<Option<u64>, Fault>
-    ensures known { IfSome known (λ offset. result ≡ Ok (Some offset)) }
-    ensures order { known ≡ None →
-        IfWhole (F.bytes file.now) size (λ all. IsBreakOf (F.fails file.now) all run result) }
-    ensures input { IfErr result (IsOfFile input) }
-{
-    match known {
-        Some(offset) => Ok(Some(offset)),
-        None => find_break(alloc, file, input, size, run),
     }
 }
 

@@ -2,7 +2,8 @@
 //! read and written.
 #![tactic(auto)]
 
-mod clear;
+mod buffered;
+mod cut_back;
 mod end_rule;
 mod extent;
 mod fault;
@@ -34,7 +35,8 @@ mod split_file;
 mod unit;
 mod write;
 
-pub use clear::{Clear, ClearOutput};
+pub use buffered::Buffered;
+pub use cut_back::{CutBack, CutBackOutput};
 pub use end_rule::{EndRule, lacks_end_of_file};
 pub use extent::{Extent, FramedExtent};
 pub use fault::{Fault, LENGTH_LIMIT};

@@ -3,7 +3,7 @@ ghost use Rattle.std.specs.Prelude.{◌≡◌, ◌+◌, ◌<◌, ◌≤◌, ◌�
 ghost use Rattle.std.specs.Prelude.{length, take, IfOk, IsOk, OnErr};
 ghost use Rattle.osm_files.specs.Output.{Content, IsAppended, WriteFails, FlushFails, Collected};
 
-use crate::clear::{Clear, ClearOutput};
+use crate::cut_back::{CutBack, CutBackOutput};
 use crate::input::Broken;
 use std::alloc::Global;
 use std::io::Write;
@@ -97,16 +97,31 @@ impl<W: Write + Drop> Output for ToWrite<W> {
     }
 }
 
-impl<W: Clear + Drop> ClearOutput for ToWrite<W> {
-    ghost can_clear = { λ s. W.can_clear s.writer };
+impl<W: CutBack + Drop> CutBackOutput for ToWrite<W> {
+    ghost can_cut = { λ s. W.can_cut s.writer };
 
-    fn can_be_cleared(&self) -> bool {
-        self.writer.can_be_cleared()
+    fn can_be_cut_back(&self) -> bool {
+        self.writer.can_be_cut_back()
     }
 
-    fn clear(&mut self) -> Result<(), Broken> {
-        self.failed = self.writer.clear().is_err();
-        if self.failed { Err(Broken) } else { Ok(()) }
+    fn length(&mut self) -> Result<u64, Broken> {
+        match self.writer.length() {
+            Ok(length) => Ok(length),
+            Err(_) => {
+                self.failed = true;
+                Err(Broken)
+            }
+        }
+    }
+
+    fn cut_back(&mut self, length: u64) -> Result<(), Broken> {
+        match self.writer.cut_back(length) {
+            Ok(()) => Ok(()),
+            Err(_) => {
+                self.failed = true;
+                Err(Broken)
+            }
+        }
     }
 }
 
@@ -181,18 +196,21 @@ impl Output for VecOut {
     }
 }
 
-impl ClearOutput for VecOut {
+impl CutBackOutput for VecOut {
     ghost use Rattle.std.specs.Prelude.{true};
 
-    ghost can_clear = { λ _. true };
+    ghost can_cut = { λ _. true };
 
-    fn can_be_cleared(&self) -> bool {
+    fn can_be_cut_back(&self) -> bool {
         true
     }
 
-    fn clear(&mut self) -> Result<(), Broken> {
-        self.bytes.clear();
-        self.failed = false;
+    fn length(&mut self) -> Result<u64, Broken> {
+        Ok(self.bytes.len() as u64)
+    }
+
+    fn cut_back(&mut self, length: u64) -> Result<(), Broken> {
+        self.bytes.truncate(length as usize);
         Ok(())
     }
 }

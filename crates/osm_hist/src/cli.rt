@@ -1,4 +1,7 @@
 //! Commands: their arguments are parsed, the command is run, and its result is reported.
+ghost use Rattle.std.specs.Prelude.{OnOk, string_bytes};
+ghost use Rattle.std.specs.Io.KnownBytes.{Appends};
+
 mod command;
 mod file_check;
 mod file_run;
@@ -15,7 +18,7 @@ mod target;
 use clap::{ArgMatches, Error};
 use command::{ALL_REASONS, command};
 use file_check::check_files;
-use file_run::run_files;
+use file_run::run_job;
 use osm_mirror::{Escaped, Explanation, ReasonList};
 use plan_run::run_plan;
 pub(crate) use refusal::Refusal;
@@ -23,6 +26,7 @@ use request::{Request, read_list};
 use std::alloc::{AllocGlobal, Global};
 use std::convert::AsStr;
 use std::fs::File;
+use std::io;
 use std::io::{IsTerminal, Read, Write};
 use std::rt::Files;
 use std::time::Clock;
@@ -137,7 +141,7 @@ fn run_request<I: Read + Drop, O: Write + IsTerminal, E: Write + IsTerminal>(
     let Some(run) = &request.run else {
         return check_files(rt, &request, stdin, out, err, hints);
     };
-    match run_files(rt, run, &request.files, stdin, out, err) {
+    match run_job(rt, run, &request.files, stdin, out, err) {
         Ok(has_more_o5) => {
             let more = format!(in rt.alloc(); "{}", hint::MORE_O5).ok();
             hint::advise(more.filter(|_| has_more_o5), err, hints);
@@ -180,8 +184,20 @@ fn print_help<O: Write>(alloc: Global, help: &Error, out: &mut O) -> Result<(), 
     print(out, &format!(in alloc; "{help}")?)
 }
 
-/// Prints a text, which has its own line feeds, in one write.
-fn print<'a, O: Write>(out: &mut O, text: &String) -> Result<(), Refusal<'a>> {
-    let printed = out.write_all(text.as_bytes()).and_then(|()| out.flush());
-    printed.map_err(|_| Refusal::StandardOutput)
+/// Prints a text, which has its own line feeds.
+fn print<'a, O: Write>(out: &mut O, text: &String) -> Result<(), Refusal<'a>>
+    ensures { OnOk result (Appends (O.contents out.old) (O.contents out.new) (string_bytes text.now)) }
+{
+    match write_whole(out, text.as_bytes()) {
+        Ok(()) => Ok(()),
+        Err(_) => Err(Refusal::StandardOutput),
+    }
+}
+
+/// Writes all of `bytes`, and flushes the writer.
+fn write_whole<W: Write>(writer: &mut W, bytes: &[u8]) -> io::Result<()>
+    ensures { OnOk result (Appends (W.contents writer.old) (W.contents writer.new) bytes.now) }
+{
+    writer.write_all(bytes)?;
+    writer.flush()
 }

@@ -1,2 +1,3 @@
+pub mod DigitLaws
 pub mod run_laws
 pub mod fleet_laws

@@ -9,9 +9,11 @@ pub mod SortedRunLaws
 pub mod FilesJobLaws
 pub mod InputRefusalLaws
 pub mod FilesRefusalLaws
+pub mod OutputFaultLaws
 pub mod FilesGoodLaws
 pub mod WayLaws
 pub mod TurnLaws
+pub mod FirstFaultLaws
 pub mod FileEndLaws
 pub mod SlicedFileLaws
 pub mod SplitLineLaws
@@ -26,3 +28,6 @@ pub mod FileExtentLaws
 pub mod ShardSpanLaws
 pub mod SpanJobLaws
 pub mod ShardJobLaws
+pub mod ShardTextLaws
+pub mod NamesLaws
+pub mod JobInputLaws

@@ -1,3 +1,4 @@
+pub mod Digits
 pub mod run
 pub mod fleet
 pub mod report

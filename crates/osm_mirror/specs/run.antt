@@ -22,3 +22,6 @@ pub mod ShardSpan
 pub mod ShardExtent
 pub mod ShardJob
 pub mod ShardRefusal
+pub mod Shard
+pub mod Names
+pub mod JobInput

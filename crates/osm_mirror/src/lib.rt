@@ -1,6 +1,7 @@
 //! The jobs over whole files of OpenStreetMap histories, and mirrors that take and pass such files.
 #![tactic(auto)]
 
+mod digits;
 mod fleet;
 pub mod laws;
 mod report;
@@ -18,11 +19,12 @@ pub use report::{
     Quoted, REASONS, ReasonList, RefusedJson, content_of, fault_text, is_report_due,
 };
 pub use run::{
-    CheckReport, Checked, Command, FileRequest, FilesJob, InputFile, JobFile, NamesFault, Order,
-    Place, ReadAs, RequestFault, Shard, ShardJob, Slice, SliceFile, Tally, cut_offset, folder_of,
-    is_part, last_of, part_name, read_moment, read_names, read_retried, run_apply, run_check,
-    run_check_sorted, run_files, run_merge, run_period_filter, run_selected, run_shard, run_slice,
-    run_sort, run_tally, run_tally_sorted, run_time_filter, write_retried,
+    CheckReport, Checked, Command, FileRequest, FilesJob, InputFile, JobFile, JobInput, Metered,
+    NamesFault, Order, Place, ReadAs, RequestFault, Shard, ShardJob, Slice, SliceFile, Tally,
+    Watch, cut_offset, folder_of, is_part, job_files, last_of, part_name, read_moment, read_names,
+    read_retried, regular_files, run_apply, run_check, run_check_sorted, run_files, run_merge,
+    run_period_filter, run_selected, run_shard, run_slice, run_sort, run_tally, run_tally_sorted,
+    run_time_filter, write_retried,
 };
 
 #[cfg(test)]

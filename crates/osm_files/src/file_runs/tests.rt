@@ -27,11 +27,11 @@ const WITHIN_A_SET: &[u8] =
     b"\xff\xe0\x04o5m2\x10\x05\x04\x01\x00\x02\x04\xdb\x01\xff\x10\x05\x01\x01\x00\x00\x00\xfe";
 
 /// The runs of `file`, at most `most`: the offset of each, whether it lacks a header and the end byte, and the results
-/// of its source. `first` is the offset of the first version that is out of order, if it is known.
-fn runs_text(alloc: Global, file: &[u8], first: Option<u64>, most: usize) -> String {
+/// of its source.
+fn runs_text(alloc: Global, file: &[u8], most: usize) -> String {
     let mut text = String::new(alloc);
     let size = file.len() as u64;
-    match find_runs(alloc, &file, 3, size, first, most) {
+    match find_runs(alloc, &file, 3, size, most) {
         Ok(Some(runs)) => {
             for run in &runs {
                 let given = given_text(
@@ -105,30 +105,14 @@ const RUNS: [(&[u8], usize, &str); 14] = [
 #[test]
 fn runs_are_found(rt: HostRuntime) {
     for (file, most, text) in RUNS {
-        assert_eq!(rt; runs_text(rt.alloc(), file, None, most).as_str(), text);
-    }
-}
-
-#[test]
-fn the_first_split_may_be_known(rt: HostRuntime) {
-    let alloc = rt.alloc();
-    for (file, first) in [
-        (b"n3 v1 dD\nn2 v1 dD\nn1 v1 dD\n".as_slice(), 9),
-        (DATA_SETS, 15),
-        (WITHOUT_RESET, 14),
-    ] {
-        let found = runs_text(alloc, file, None, 3);
-        assert_eq!(rt;
-            runs_text(alloc, file, Some(first), 3).as_str(),
-            found.as_str()
-        );
+        assert_eq!(rt; runs_text(rt.alloc(), file, most).as_str(), text);
     }
 }
 
 #[test]
 fn a_file_that_became_shorter_is_refused(rt: HostRuntime) {
     let file = b"n1 v1 dD\n".as_slice();
-    match find_runs(rt.alloc(), &file, 3, 12, None, 9) {
+    match find_runs(rt.alloc(), &file, 3, 12, 9) {
         Err(fault) => assert_eq!(rt; fault, Fault::at(3, 9, Reason::ReadFault)),
         Ok(_) => assert!(rt; false),
     }

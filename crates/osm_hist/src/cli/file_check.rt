@@ -1,13 +1,13 @@
 //! Checks of files.
 use super::files::input_name;
-use super::input::{InputBytes, OpenInput, Watch};
+use super::input::{open_input, refuse_changed, size_of};
 use super::refusal::Refusal;
 use super::request::Request;
 use super::target::refuse_standard_output;
 use super::{Host, hint, print};
 use osm_files::{EndRule, Fault, FramedExtent, ReadAt, Reason, SortedRun};
 use osm_mirror::{
-    Checked, CheckedFile, CheckedJson, EscapedOut, RefusedJson, run_tally, run_tally_sorted,
+    Checked, CheckedFile, CheckedJson, EscapedOut, RefusedJson, Watch, run_tally, run_tally_sorted,
 };
 use std::alloc::{AllocError, Global};
 use std::cell::Cell;
@@ -107,7 +107,8 @@ fn line_of(
     Ok(Some(line?))
 }
 
-/// Checks the file that `arg` names. Its reads are counted in `reads`.
+/// Checks the file that `arg` names. Its reads are counted in `reads`. A stream is held in memory, unless it has to be
+/// sorted.
 fn check_file<'a, I: Read + Drop>(
     rt: &impl Host,
     request: &Request<'a>,
@@ -115,50 +116,37 @@ fn check_file<'a, I: Read + Drop>(
     stdin: &mut Option<I>,
     reads: &Reads,
 ) -> Result<CheckedFile<'a>, Refusal<'a>> {
-    let mut inputs = Vec::new(rt.alloc());
-    inputs.push(OpenInput::open(rt, &request.files, arg, stdin, reads)?)?;
-    check_first(rt, inputs.as_slice(), request.sorted, reads)
-}
-
-/// Checks the first one of open inputs. It has to be sorted if `sorted` is set. A stream is held in memory otherwise.
-fn check_first<'a, I: Read + Drop, M: Watch>(
-    rt: &impl Host,
-    inputs: &[OpenInput<'a, I, M>],
-    sorted: bool,
-    reads: &Reads,
-) -> Result<CheckedFile<'a>, Refusal<'a>> {
-    let (Some(input), alloc) = (inputs.first(), rt.alloc()) else {
-        return Err(Refusal::Memory(AllocError));
+    let (alloc, sorted) = (rt.alloc(), request.sorted);
+    let mut streams = Vec::new(alloc);
+    let input = open_input(rt, &request.files, arg, stdin, &mut streams, reads)?;
+    let checked = match (&input.regular, streams.pop()) {
+        (Some(file), _) => check_regular(alloc, file, input.end, sorted),
+        (None, Some(stream)) if sorted => run_tally_sorted(alloc, input.end, stream),
+        (None, Some(stream)) => run_tally(alloc, input.end, stream),
+        (None, None) => Err(Fault::failed(0)),
     };
-    let checked = match &input.bytes {
-        InputBytes::Regular(file, stamp) => check_regular(
-            alloc, file, stamp.size, input.end, sorted,
-        ),
-        InputBytes::Stream(stream) => match stream.take() {
-            Some(stream) if sorted => run_tally_sorted(alloc, input.end, stream),
-            Some(stream) => run_tally(alloc, input.end, stream),
-            None => Err(Fault::failed(0)),
-        },
-    };
-    input.refuse_changed(rt)?;
+    refuse_changed(rt, &input)?;
+    let name = input.note.name;
     match checked {
         Ok(checked) => Ok(CheckedFile {
-            name: input.name,
-            bytes: input.size().unwrap_or(reads.bytes.get()),
+            name,
+            bytes: size_of(&input).unwrap_or(reads.bytes.get()),
             checked,
         }),
-        Err(fault) => Err(input.refusal(alloc, &fault)),
+        Err(fault) => Err(Refusal::of_fault(alloc, fault, name, None)),
     }
 }
 
-/// Checks a file of `size` bytes, which has to end as `end` requires. It is held in memory only if it isn't sorted.
+/// Checks a regular file, which has to end as `end` requires. It is held in memory only if it isn't sorted.
 fn check_regular<F: ReadAt>(
     alloc: Global,
     file: &F,
-    size: u64,
     end: EndRule,
     sorted: bool,
 ) -> Result<Checked, Fault> {
+    let Ok(size) = file.size() else {
+        return Err(Fault::at(0, 0, Reason::ReadFault));
+    };
     let whole = SortedRun::whole();
     match run_tally_sorted(alloc, end, FramedExtent::of_run(file, size, whole)) {
         Err(fault) if fault.reason == Reason::Unsorted && !sorted => {

@@ -1,4 +1,6 @@
 //! Files that are opened to be read.
+ghost use Rattle.std.specs.Prelude.{◌≡◌, IfOk, IfSome};
+
 use super::target::STANDARD;
 use super::{Host, Refusal};
 use std::alloc::AllocError;
@@ -80,10 +82,9 @@ pub(super) fn read<'a>(
 }
 
 /// Reads standard input to its end. A regular file that changes while it is read is refused.
-pub(super) fn read_input<'a, I: Read>(
-    rt: &impl Host,
-    stdin: &mut I,
-) -> Result<Vec<u8>, Refusal<'a>> {
+pub(super) fn read_input<'a, I: Read>(rt: &impl Host, stdin: &mut I) -> Result<Vec<u8>, Refusal<'a>>
+    ensures { IfOk result (λ bytes. IfSome (I.remaining stdin.old) (λ rest. bytes.items ≡ rest)) }
+{
     let stamp = Stamp::of_input(rt);
     let bytes = read_stream(rt, stdin, STANDARD_INPUT)?;
     if let Some(stamp) = stamp {
@@ -97,7 +98,9 @@ fn read_stream<'a, S: Read>(
     rt: &impl Host,
     stream: &mut S,
     name: &'a str,
-) -> Result<Vec<u8>, Refusal<'a>> {
+) -> Result<Vec<u8>, Refusal<'a>>
+    ensures { IfOk result (λ bytes. IfSome (S.remaining stream.old) (λ rest. bytes.items ≡ rest)) }
+{
     let mut bytes = Vec::new(rt.alloc());
     match stream.read_to_end(&mut bytes) {
         Ok(_) => Ok(bytes),

@@ -1,5 +1,5 @@
 //! The job of a plan. Mirrors take files and pass on what they hold. At the end the job writes the files of the plan.
-ghost use Rattle.std.specs.Prelude.{◌≡◌, ◌<◌, length, IfOk};
+ghost use Rattle.std.specs.Prelude.{◌≡◌, ◌<◌, [], length, map, slice_get, option_map, unwrap_or, IfOk};
 ghost use Rattle.std.specs.List.{All};
 ghost use Rattle.osm_mirror.specs.fleet.Plan.{NamesItsMirrors};
 
@@ -7,9 +7,9 @@ use super::files::{open, read};
 use super::part::{FileId, id_of_regular, place_of};
 use super::refusal::Refusal;
 use super::target::{STANDARD, Target, refuse_standard_output};
-use super::{Host, hint, print};
+use super::{Host, hint, print, write_whole};
 use clap::ArgMatches;
-use osm_files::{Fault, Output, Reason, ToWrite, write_all};
+use osm_files::{Fault, Reason};
 use osm_mirror::{Plan, PlanRun, PlanWrite, Replies, Reply, Step, part_name, read_plan};
 use std::alloc::{AllocError, Global};
 use std::fs;
@@ -170,16 +170,25 @@ fn bytes_of<'f>(
     files: &'f [TakenFile<'_>],
     indices: &[usize],
 ) -> Result<Vec<&'f [u8]>, AllocError>
-    ensures { IfOk result (λ bytes. length bytes.items ≡ length indices.now) }
+    ensures count { IfOk result (λ bytes. length bytes.items ≡ length indices.now) }
+    ensures bytes { IfOk result (λ bytes. map (λ b. b.now) bytes.items
+        ≡ map (λ i. unwrap_or (option_map (λ file. file.bytes.items) (slice_get files.now i)) []) indices.now) }
 {
     let mut bytes: Vec<&'f [u8]> = Vec::new(alloc);
     'indices: for index in indices {
-        bytes.push(match files.get(*index) {
-            Some(file) => file.bytes.as_slice(),
-            None => &[],
-        })?;
+        bytes.push(bytes_at(files, *index))?;
     }
     Ok(bytes)
+}
+
+/// The bytes of the file with this index; none if there is no such file.
+fn bytes_at<'f>(files: &'f [TakenFile<'_>], index: usize) -> &'f [u8]
+    ensures { result.now ≡ unwrap_or (option_map (λ file. file.bytes.items) (slice_get files.now index)) [] }
+{
+    match files.get(index) {
+        Some(file) => file.bytes.as_slice(),
+        None => &[],
+    }
 }
 
 /// Reads the file `name`, unless it is one of `files`. Returns its index among them.
@@ -227,21 +236,8 @@ fn make_file<'p, O: Write + Drop>(
 ) -> Result<(), Refusal<'p>> {
     let target = Target::of_name(rt, name);
     let mut destination = target.open(rt, &[], out)?;
-    let written = write_bytes(bytes, &mut destination).map_err(|fault| Refusal::of_fault(
-        rt.alloc(),
-        fault,
-        target.name(),
-        None,
-    ));
+    let written = write_whole(&mut destination, bytes);
+    let fault = Fault::at(0, destination.taken, Reason::WriteFault);
+    let written = written.map_err(|_| Refusal::of_fault(rt.alloc(), fault, target.name(), None));
     destination.finish(rt, written, false)
-}
-
-/// Writes `bytes` as the whole content of an output.
-fn write_bytes<W: Write + Drop>(bytes: &[u8], writer: W) -> Result<(), Fault> {
-    let mut output = ToWrite::new(writer);
-    if !bytes.is_empty() {
-        write_all(&mut output, 0, 0, bytes)?;
-    }
-    let flushed = output.flush();
-    flushed.map_err(|_| Fault::at(0, bytes.len() as u64, Reason::WriteFault))
 }

@@ -1,10 +1,12 @@
 //! Targets of a job: a file that the job makes, an existing pipe or device, or standard output.
-ghost use Rattle.std.specs.Prelude.{◌≡◌};
+ghost use Rattle.std.specs.Prelude.{◌≡◌, None, Err, OnOk, IfOk, MatchResult};
+ghost use Rattle.either.specs.Either.{either};
+ghost use Rattle.osm_files.specs.CutBack.{IsCutBackIfKnown};
 
 use super::part::{FileId, OutPart, id_of_regular, is_named};
 use super::{Host, Refusal};
 use either::{Either, Left, Right};
-use osm_files::Clear;
+use osm_files::CutBack;
 use osm_mirror::{folder_of, is_part, last_of, write_retried};
 use std::fs::File;
 use std::io::{ErrorKind, Seek, SeekFrom, Write};
@@ -184,7 +186,7 @@ pub(super) struct Destination<'a, O> {
     part: Option<OutPart<'a>>,
     /// The file, the pipe or the device; or else standard output.
     writer: Either<File, O>,
-    /// The number of bytes that the writer took before its first failure, since it was emptied.
+    /// The number of bytes that the writer took before its first failure, without those that were cut away.
     pub(super) taken: u64,
     /// Whether a call failed.
     has_failed: bool,
@@ -193,40 +195,38 @@ pub(super) struct Destination<'a, O> {
 }
 
 impl<'a, O> Destination<'a, O> {
-    /// Ends a job with the outcome `written`: OUT.part becomes OUT, or is removed after a refusal.
+    /// Ends a job with the outcome `written`: OUT.part becomes OUT, or is removed after a refusal. No byte is written.
     pub(super) fn finish<T: Drop>(
         &self,
         rt: &impl Host,
         written: Result<T, Refusal<'a>>,
         fsync: bool,
-    ) -> Result<T, Refusal<'a>> {
+    ) -> Result<T, Refusal<'a>>
+        ensures { MatchResult written.entry (λ done. IfOk result (λ x. x ≡ done)) (λ refusal. result ≡ Err refusal) }
+    {
         let Some(part) = &self.part else {
             return written;
         };
-        let outcome = match (written, &self.writer) {
-            (Ok(done), Left(file)) => part.complete(rt, file, fsync).map(|()| done),
-            (written, _) => written,
-        };
-        if outcome.is_err() {
-            part.discard(rt);
-        }
-        outcome
-    }
-
-    /// Empties OUT.part.
-    fn empty(&mut self) -> io::Result<()> {
-        match &mut self.writer {
-            Left(file) if self.part.is_some() => {
-                file.seek(SeekFrom::Start(0))?;
-                file.set_len(0)
+        let done = match written {
+            Ok(done) => done,
+            Err(refusal) => {
+                part.discard(rt);
+                return Err(refusal);
             }
-            _ => Err(io::Error::from(ErrorKind::Unsupported)),
+        };
+        if let Left(file) = &self.writer
+            && let Err(refusal) = part.complete(rt, file, fsync)
+        {
+            part.discard(rt);
+            return Err(refusal);
         }
+        Ok(done)
     }
 
     /// Notes the failure of a call.
     fn note<T>(&mut self, outcome: io::Result<T>) -> io::Result<T>
-        ensures { result ≡ outcome }
+        ensures same { result ≡ outcome }
+        ensures writer { self.new.writer ≡ self.old.writer }
     {
         if let Err(error) = &outcome
             && !self.has_failed
@@ -237,24 +237,53 @@ impl<'a, O> Destination<'a, O> {
     }
 }
 
-/// OUT.part can be cleared and written again.
-impl<O: Write> Clear for Destination<'_, O> {
+impl<'a, O: Write> Destination<'a, O> {
+    /// Keeps the first `length` bytes of OUT.part.
+    fn cut(&mut self, length: u64) -> io::Result<()>
+        ensures { OnOk result (IsCutBackIfKnown (either (λ _. None) O.contents self.old.writer)
+            (either (λ _. None) O.contents self.new.writer) length) }
+    {
+        match &mut self.writer {
+            Left(file) if self.part.is_some() => {
+                file.seek(SeekFrom::Start(length))?;
+                file.set_len(length)
+            }
+            _ => Err(io::Error::from(ErrorKind::Unsupported)),
+        }
+    }
+}
+
+/// OUT.part can be cut back and written again.
+impl<O: Write> CutBack for Destination<'_, O> {
     ghost use Rattle.std.specs.Prelude.{is_some};
 
-    ghost can_clear = { λ s. is_some s.part };
+    ghost can_cut = { λ s. is_some s.part };
 
-    fn can_be_cleared(&self) -> bool {
+    fn can_be_cut_back(&self) -> bool {
         self.part.is_some()
     }
 
-    fn clear(&mut self) -> io::Result<()> {
-        let outcome = self.empty();
-        self.taken = 0;
+    fn length(&self) -> io::Result<u64> {
+        match &self.writer {
+            Left(file) if self.part.is_some() => Ok(file.metadata()?.len()),
+            _ => Err(io::Error::from(ErrorKind::Unsupported)),
+        }
+    }
+
+    fn cut_back(&mut self, length: u64) -> io::Result<()> {
+        let outcome = self.cut(length);
+        if outcome.is_err() {
+            self.taken = 0;
+        } else if !self.has_failed {
+            self.taken = length;
+        }
         self.note(outcome)
     }
 }
 
 impl<O: Write> Write for Destination<'_, O> {
+    ghost contents = { λ s. either (λ _. None) O.contents s.writer };
+
     fn write(&mut self, bytes: &[u8]) -> io::Result<usize> {
         let outcome = write_retried(&mut self.writer, bytes);
         if let Ok(count) = &outcome

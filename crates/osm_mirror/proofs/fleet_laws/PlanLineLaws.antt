@@ -2,12 +2,11 @@
 use Rattle.std.proofs.Common.{◌≡◌, ℕ, ◌+◌, ◌<◌, ◌≤◌, ◌^◌, true, ◌&&◌, List, [], ◌∷◌, length, get_or, refl, sym, ap, ◌∙◌, arith, Result, Err}
 use Rattle.std.proofs.lemmas.Result.{OkIff-at_err}
 use Rattle.std.proofs.lemmas.Str.{encodes_same}
-use Rattle.std.proofs.lemmas.Str.Parse.{IsNumeralModel, numerals_by_value, tells_all_ascii_digits, digits_value_short, parse_digits}
-use Rattle.std.specs.Char.{is_ascii_digit}
-use Rattle.std.specs.List.{list_all}
+use Rattle.std.proofs.lemmas.Str.Parse.{digits_value_short, parse_digits}
 use Rattle.std.specs.Str.{all_ascii_digits}
 use Rattle.std.specs.Str.Parse.{digits_value, ParsesUnsigned}
 use Rattle.opl_line.specs.Spells.{is_full}
+use Rattle.osm_mirror.proofs.DigitLaws.{numerals}
 use Rattle.osm_files.specs.declared.format.Format.{Format}
 use Rattle.osm_files.specs.declared.format.Format.TheVariants.{Opl, O5m, O5c}
 use Rattle.osm_files.specs.Format.{format_name}
@@ -19,15 +18,6 @@ use Rattle.osm_mirror.specs.declared.fleet.event.MirrorEvent.TheVariants.{Take, 
 use Rattle.osm_mirror.specs.declared.fleet.plan_line.PlanLine.{PlanLine}
 use Rattle.osm_mirror.specs.declared.fleet.plan_line.PlanLine.TheVariants.{Mirror, Step, Write}
 use Rattle.osm_mirror.specs.fleet.PlanLine.{IsNumber, IsName, WordsSay, LineSays}
-
--- The two tests for decimal digits agree.
-pub are_digits : (word : List ℕ) → list_all is_ascii_digit word ≡ all_ascii_digits word
-are_digits [] = refl
-are_digits (c ∷ cs) = ap (λ t. is_ascii_digit c && t) (are_digits cs)
-
--- digits write their decimal value
-numerals : IsNumeralModel (λ ds. all_ascii_digits ds ≡ true) (digits_value 10)
-numerals = numerals_by_value (λ ds. all_ascii_digits ds ≡ true) tells_all_ascii_digits
 
 -- up to 9 digits that can't be parsed are no number
 pub parsed_none : {E : Type 0} → (word : List ℕ) (r : Result ℕ E) (e : E) → ParsesUnsigned 64 10 word r → all_ascii_digits word ≡ true →

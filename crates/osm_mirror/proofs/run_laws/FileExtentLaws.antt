@@ -32,7 +32,7 @@ use Rattle.osm_files.proofs.FileLaws.{sorted_files_are_read}
 use Rattle.osm_files.proofs.FrontLaws.{front_given}
 use Rattle.osm_files.proofs.HoldLaws.{source_gives_held, set_listed}
 use Rattle.osm_files.proofs.RunBytes.{run_given}
-use Rattle.osm_files.proofs.RunOrderLaws.{run_refuses, run_front, broken_fails}
+use Rattle.osm_files.proofs.RunOrderLaws.{run_refuses, run_front, broken_fails, failure_of}
 use Rattle.osm_files.proofs.SpellLaws.{held_is_one_set}
 use Rattle.osm_merge.specs.declared.span.Span.{Span}
 use Rattle.osm_merge.specs.declared.within.Outside.{Outside}
@@ -359,7 +359,8 @@ module _ (span : Span) (Fails : Type 0) (all : List ℕ) (extent : FileExtent) (
       → length all ≡ extent.size → (sorted_source number c).refusal ≡ Some fault
       → IsReadFailure Fails fault ⊎ ((held : VersionSet) → HoldsSorted all held → ⊥)
   source_fault number c fault gives size_is e =
-      ⊎_elim (λ failure. inl failure) (λ (v, verdict_is, same). inr (λ held h. no_verdict held h v verdict_is))
+      ⊎_elim (λ failure. inl (failure_of Fails (run_bytes extent.run all) fault failure))
+      (λ (v, verdict_is, same). inr (λ held h. no_verdict held h v verdict_is))
       (run_refuses Fails all extent.run extent.size number fault size_is (c, gives, inr e))
 
   part_fault : (number : ℕ) (given : Outside × InputRest) (fault : Fault) → given.0 ≡ outside

@@ -14,7 +14,7 @@ use Rattle.osm_files.specs.declared.output.Output.{Ghosts}
 use Rattle.osm_files.specs.declared.sorted_run.SortedRun.{SortedRun}
 use Rattle.osm_files.specs.Change.{change_of}
 use Rattle.osm_files.specs.Extent.{RunCanGive}
-use Rattle.osm_files.specs.Fault.{fault_at, memory_fault}
+use Rattle.osm_files.specs.Fault.{fault_at, memory_fault, too_long_fault}
 use Rattle.osm_files.specs.FileRuns.{IsSortedRun}
 use Rattle.osm_files.specs.Held.{Holds}
 use Rattle.osm_files.specs.Input.{InputRest}
@@ -38,7 +38,7 @@ use Rattle.osm_mirror.specs.declared.run.files_job.Order.{Order}
 use Rattle.osm_mirror.specs.declared.run.files_job.Order.TheVariants.{Sorted, Any}
 use Rattle.osm_mirror.specs.declared.run.input.InputFile.{InputFile}
 use Rattle.osm_mirror.specs.declared.run.input.ReadAs.{ReadAs}
-use Rattle.osm_mirror.specs.run.FilesRefusal.{AreSettled, IsFaultOfBytes, IsFaultOf, IsFaultAmong, AreRefused, IsGood, IsCutIfGood}
+use Rattle.osm_mirror.specs.run.FilesRefusal.{AreSettled, IsFaultIn, IsFaultOf, IsFaultAmong, AreRefused, IsGood, IsCutIfGood, IsLong}
 use Rattle.osm_mirror.specs.run.FilesRefusal.{IsOutputFault}
 use Rattle.osm_mirror.specs.run.FilesRefusal.{IsFaultInWays, RefusesTurn}
 use Rattle.osm_mirror.specs.run.FilesJob.{read_as_of, HoldsAs, IsWayOf, FitsBytes, FileFits, FilesFit, OpensRun, OpensFile}
@@ -48,7 +48,8 @@ use Rattle.osm_mirror.specs.run.Job.{union_of}
 use Rattle.osm_mirror.specs.run.SelectedJob.{RefusesJob, IsJobRefused}
 use Rattle.osm_mirror.specs.run.SortedRuns.{SortedRunsHoldTheFile}
 use Rattle.osm_mirror.proofs.run_laws.FilesRefusalLaws.{fault_found, output_found, memory_found}
-use Rattle.osm_mirror.proofs.run_laws.InputRefusalLaws.{SomeRefused, refused_at, unread_refused}
+use Rattle.osm_mirror.proofs.run_laws.InputRefusalLaws.{SomeRefused, AnyWay, Streamed, refused_at, unread_refused}
+use Rattle.osm_mirror.proofs.run_laws.OutputFaultLaws.{cut_why, long_of}
 use Rattle.osm_mirror.proofs.run_laws.FilesRefusalLaws.{Found}
 use Rattle.osm_mirror.proofs.run_laws.FilesRefusalLaws.{stream_gave}
 use Rattle.osm_mirror.proofs.run_laws.FilesJobLaws.{cut, as_pairs, as_given, as_any, plain_given}
@@ -215,20 +216,22 @@ module _ {F R I : Type 0} (fails : F → Type 0) (bytes : F → Option (List ℕ
 
 -- ---- good files are never refused
 module _ {F R : Type 0} (fails : F → Type 0) (bytes : F → Option (List ℕ)) (can : R → InputRest → Type 0) where
-  bytes_not_refused : (order : Order) (all : List ℕ) (held : VersionSet) (fault : Fault) → HoldsAs order all held
-      → IsFaultOfBytes order all fault → ⊥
-  bytes_not_refused Sorted all held fault h (inl e) =
+  bytes_not_refused : (order : Order) (Fails : Type 0) (all : List ℕ) (held : VersionSet) (fault : Fault) → (Fails → ⊥)
+      → HoldsAs order all held → IsFaultIn order Fails (Some all) fault → ⊥
+  bytes_not_refused Sorted Fails all held fault never h (inl failed) = never failed.0
+  bytes_not_refused Sorted Fails all held fault never h (inr (inl e)) =
       let none = sorted_files_are_read all h.versions h.short h.file h.sorted in
       (let f : None ≡ Some (verdict_at fault.place fault.reason) = sym none ∙ e in cc)
-  bytes_not_refused Sorted all held fault h (inr long) = let short = h.short in absurd (omega (arith, short, long))
-  bytes_not_refused Any all held fault h never = never (held, h)
+  bytes_not_refused Sorted Fails all held fault never h (inr (inr long)) =
+      let short = h.short in let many = long.0 in absurd (omega (arith, short, many))
+  bytes_not_refused Any Fails all held fault never h (inl failed) = never failed.0
+  bytes_not_refused Any Fails all held fault never h (inr refused) = refused (held, h)
 
-  good_not_refused : (order : Order) (file : JobFile F R) (held : VersionSet) (fault : Fault) → IsGood fails bytes can order file held
+  pub good_not_refused : (order : Order) (file : JobFile F R) (held : VersionSet) (fault : Fault) → IsGood fails bytes can order file held
       → IsFaultOf fails bytes can order file fault → ⊥
-  good_not_refused order (File f end) held fault (never, (all, known, h)) (inl failed) = never failed.0
-  good_not_refused order (File f end) held fault (never, (all, known, h)) (inr refused) =
-      bytes_not_refused order all held fault h (subst (λ (k : Option (List ℕ)). IfSome k (λ all. IsFaultOfBytes order all fault)) known
-      refused)
+  good_not_refused order (File f end) held fault (never, (all, known, h)) refused =
+      bytes_not_refused order (fails f.now) all held fault never h
+      (subst (λ (k : Option (List ℕ)). IsFaultIn order (fails f.now) k fault) known refused)
   good_not_refused order (Stream r end) held fault good (c, gave, (input, e)) =
       let whole = source_laws.as_given input (read_as_of order, by_rule end c) held
       (given_as_file order (by_rule end c) held (good c gave)) in
@@ -262,6 +265,11 @@ module _ {F R : Type 0} (fails : F → Type 0) (bytes : F → Option (List ℕ))
   nothing_cut job files change fault nothing (inr refused) held good = absurd (none_refused job.order files held fault good refused)
 
 -- ---- one turn
+-- an input of a file that isn't read to its end first is read in order
+streamed_order : {P : Type 0} (o : Order) → Streamed (read_as_of o) → (o ≡ Sorted) ⊎ P
+streamed_order Sorted streamed = inl refl
+streamed_order Any streamed = absurd (streamed refl)
+
 module _ {F R I O : Type 0} (fails : F → Type 0) (bytes : F → Option (List ℕ)) (can : R → InputRest → Type 0)
     (gives : I → InputRest → Type 0) (output : Ghosts O) (job : FilesJob) (files : List (JobFile F R)) (ways : List FileWay)
     (inputs : List (InputFile I)) (fits : FilesFit bytes job.order files ways) (opens : OpensFiles fails bytes can gives files ways inputs)
@@ -271,23 +279,28 @@ module _ {F R I O : Type 0} (fails : F → Type 0) (bytes : F → Option (List �
   Moved = fault_in_files 0 ways fault.input fault
 
   module _ (given : List (ReadAs × InputRest)) (g : AllGive (InputFileCanGive gives) inputs given) where
-    in_ways : Found fails bytes can gives job.order 0 files ways Moved → IsFaultInWays fails bytes can job.order files ways Moved
-    in_ways f =
-        let index : f.k ≡ Moved.input = sym (f.input_is ∙ (let same : 0 + f.k ≡ f.k = omega arith in same)) in (
-          f.file,
-          f.way,
-          subst (λ (k : ℕ). slice_get files k ≡ Some f.file) index f.file_is,
-          subst (λ (k : ℕ). slice_get ways k ≡ Some f.way) index f.way_is,
-          f.fault_is,
-        )
+    module _ (Ways : ReadAs → Type 0) (Unwritten : Type 0)
+        (before_all : (o : Order) → Ways (read_as_of o) → (o ≡ Sorted) ⊎ Unwritten) where
+      in_ways : Found fails bytes can gives job.order Ways 0 files ways Moved
+          → IsFaultInWays fails bytes can job.order files ways Unwritten Moved
+      in_ways f =
+          let index : f.k ≡ Moved.input = sym (f.input_is ∙ (let same : 0 + f.k ≡ f.k = omega arith in same)) in record {
+            file = f.file;
+            way = f.way;
+            file_is = subst (λ (k : ℕ). slice_get files k ≡ Some f.file) index f.file_is;
+            way_is = subst (λ (k : ℕ). slice_get ways k ≡ Some f.way) index f.way_is;
+            fault_is = f.fault_is;
+            unwritten = before_all f.way.order f.among;
+          }
 
-    some_refused : SomeRefused 0 given fault → (Moved ≡ memory_fault) ⊎ IsFaultInWays fails bytes can job.order files ways Moved
-    some_refused s =
-        let index : fault.input - 0 ≡ fault.input = omega arith in
-        let found = subst (λ (k : ℕ). (fault_in_files 0 ways k fault ≡ memory_fault)
-        ⊎ Found fails bytes can gives job.order 0 files ways (fault_in_files 0 ways k fault)) index
-        (fault_found fails bytes can gives job.order files ways inputs given 0 0 fault small fits opens g s) in
-        ⊎_elim (λ memory. inl memory) (λ f. inr (in_ways f)) found
+      some_refused : SomeRefused Ways 0 given fault
+          → (Moved ≡ memory_fault) ⊎ IsFaultInWays fails bytes can job.order files ways Unwritten Moved
+      some_refused s =
+          let index : fault.input - 0 ≡ fault.input = omega arith in
+          let found = subst (λ (k : ℕ). (fault_in_files 0 ways k fault ≡ memory_fault)
+          ⊎ Found fails bytes can gives job.order Ways 0 files ways (fault_in_files 0 ways k fault)) index
+          (fault_found fails bytes can gives job.order Ways files ways inputs given 0 0 fault small fits opens g s) in
+          ⊎_elim (λ memory. inl memory) (λ f. inr (in_ways f)) found
 
     of_output : fault.input ≡ length given → Moved ≡ fault_at (length files) fault.place fault.reason
     of_output is =
@@ -316,37 +329,44 @@ module _ {F R I O : Type 0} (fails : F → Type 0) (bytes : F → Option (List �
       why = why_moved spelled c.count change.failed c.why;
     }
 
-    output_why : (spelled : List ℕ) (count : ℕ) (failed : Bool) → WhyCut (length files) spelled count failed Moved
-        → (Moved ≡ memory_fault) ⊎ IsOutputFault (length files) Moved
-    output_why spelled count failed (inl memory) = inl memory
-    output_why spelled count failed (inr (inl (is, fails))) = inr (ap (λ f. f.input) is, inl (ap (λ f. f.reason) is))
-    output_why spelled count failed (inr (inr (is, long))) = inr (ap (λ f. f.input) is, inr (ap (λ f. f.reason) is))
+    abbrev Long : Type 0
+    Long = AreSettled ways → IsLong fails bytes can job files
 
     abbrev Why : Type 0
-    Why = (Moved ≡ memory_fault) ⊎ IsFaultInWays fails bytes can job.order files ways Moved ⊎ IsOutputFault (length files) Moved
+    Why = (Moved ≡ memory_fault) ⊎ IsFaultInWays fails bytes can job.order files ways (after ≡ before) Moved
+        ⊎ IsOutputFault (length files) (change_of output before after) Long Moved
 
-    of_inputs : SomeRefused 0 given fault → Why
-    of_inputs s = ⊎_elim (λ memory. inl memory) (λ found. inr (inl found)) (some_refused s)
+    of_inputs : (Moved ≡ memory_fault) ⊎ IsFaultInWays fails bytes can job.order files ways (after ≡ before) Moved → Why
+    of_inputs (inl memory) = inl memory
+    of_inputs (inr found) = inr (inl found)
 
-    turn_why : IsJobRefused output job.selection given job.format before after fault → Why
-    turn_why (inl (memory, same)) = inl (memory_found 0 ways fault.input fault (ap (λ f. f.reason) memory))
-    turn_why (inr (inl (unread, same))) = of_inputs (unread_refused 0 given fault unread)
-    turn_why (inr (inr (read, inl c))) =
+    turn_why : (Moved ≡ too_long_fault (length files) → Long) → IsJobRefused output job.selection given job.format before after fault → Why
+    turn_why long (inl (memory, same)) = inl (memory_found 0 ways fault.input fault (ap (λ f. f.reason) memory))
+    turn_why long (inr (inl (unread, same))) =
+        of_inputs (some_refused AnyWay (after ≡ before) (λ o any. inr same) (unread_refused 0 given fault unread))
+    turn_why long (inr (inr (read, inl c))) =
         ⊎_elim (λ memory. inl memory) (λ found. inr (inr found))
-        (output_why _ c.count (change_of output before after).failed
-        (why_moved _ c.count (change_of output before after).failed c.why))
-    turn_why (inr (inr (read, inr f))) = of_inputs (refused_at 0 given f.index fault f.within f.refusal)
+        (cut_why (length files) (change_of output before after) _ Moved Long long (cut_moved (change_of output before after) _ c))
+    turn_why long (inr (inr (read, inr f))) =
+        of_inputs (some_refused Streamed (after ≡ before) streamed_order (refused_at 0 given f.index fault read f.within f.refusal))
 
   -- A refused job over the inputs of files is a refused turn.
   pub turn_refused : SortedRunsHoldTheFile
       → SomeInputsGive (InputFileCanGive gives) inputs (λ all. RefusesJob output job.selection all job.format before after fault)
       → RefusesTurn fails bytes can output job files ways before after Moved
-  turn_refused law (given, g, refused) = record {
-    why = turn_why given g refused.why;
-    cut = λ settled held good.
-        let a = files_accepted fails bytes can gives job.order law files ways inputs given held good settled fits opens g in
-        subst (λ (s : VersionSet). CutShort (length files) (change_of output before after)
-        (spell job.format (selection_of job.selection s)) Moved) a.union
-        (cut_moved given g (change_of output before after) (spell job.format (selection_of job.selection (union_of a.sets)))
-        (refused.cut a.sets a.files));
-  }
+  turn_refused law (given, g, refused) =
+      let change = change_of output before after in
+      let cut : AreSettled ways → IsCutIfGood fails bytes can job files change Moved =
+      (λ settled held good. (
+      let a = files_accepted fails bytes can gives job.order law files ways inputs given held good settled fits opens g in
+      subst (λ (s : VersionSet). CutShort (length files) change
+      (spell job.format (selection_of job.selection s)) Moved) a.union
+      (cut_moved given g change (spell job.format (selection_of job.selection (union_of a.sets)))
+      (refused.cut a.sets a.files)))) in
+      record {
+        why = turn_why given g
+            (λ is settled held good. (
+            let c = cut settled held good in
+            long_of (length files) _ c.count change.failed Moved c.why (ap (λ f. f.reason) is))) refused.why;
+        cut = cut;
+      }

@@ -17,7 +17,7 @@ use Rattle.osm_files.specs.declared.end_rule.EndRule.{EndRule}
 use Rattle.osm_files.specs.EndRule.{by_rule}
 use Rattle.osm_files.specs.Extent.{RunCanGive}
 use Rattle.osm_files.specs.Fault.{fault_at, memory_fault}
-use Rattle.osm_files.specs.FileRuns.{IsAccepted, IsSortedRun, IsReadFailure, IsRefusalOf, IsFirstUnsorted}
+use Rattle.osm_files.specs.FileRuns.{IsAccepted, IsSortedRun, IsReadFailure, IsRefusalOf}
 use Rattle.osm_files.specs.Groups.{sorted_source}
 use Rattle.osm_files.specs.Held.{HoldsSorted}
 use Rattle.osm_files.specs.Input.{InputRest}
@@ -27,7 +27,7 @@ use Rattle.osm_files.specs.Stream.{Verdict, verdict_at}
 use Rattle.osm_files.specs.Verdict.{verdict_sorted}
 use Rattle.osm_files.proofs.FileLaws.{sorted_files_are_read}
 use Rattle.osm_files.proofs.LoadFaults.{reasons_of_verdicts}
-use Rattle.osm_files.proofs.RunOrderLaws.{Refuses, run_refuses, units_refuse, verdict_refuses}
+use Rattle.osm_files.proofs.RunOrderLaws.{Refuses, failure_of, run_refuses, units_refuse, verdict_refuses}
 use Rattle.osm_files.proofs.SplitLaws.{whole_file}
 use Rattle.osm_merge.specs.Giving.{AllGive}
 use Rattle.osm_mirror.specs.declared.run.file_way.FileWay.{FileWay}
@@ -37,7 +37,7 @@ use Rattle.osm_mirror.specs.declared.run.files_job.Order.{Order}
 use Rattle.osm_mirror.specs.declared.run.files_job.Order.TheVariants.{Sorted, Any}
 use Rattle.osm_mirror.specs.declared.run.input.InputFile.{InputFile}
 use Rattle.osm_mirror.specs.declared.run.input.ReadAs.{ReadAs}
-use Rattle.osm_mirror.specs.run.FilesRefusal.{IsFaultOfBytes, IsFaultInWay}
+use Rattle.osm_mirror.specs.run.FilesRefusal.{IsFaultIn, IsFaultInWay}
 use Rattle.osm_mirror.specs.run.FilesJob.{read_as_of, IsAsRequired, IsWayOf, FitsBytes, FileFits, FilesFit, OpensRun, OpensFile, OpensFiles}
 use Rattle.osm_mirror.specs.run.FilesJob.{fault_in_run_or, fault_in_files}
 use Rattle.osm_mirror.specs.run.Given.{InputFileCanGive, source_of}
@@ -77,34 +77,33 @@ module _ (Fails : Type 0) (all : List ℕ) (fault r : Fault) (same : r.reason �
   failed (inr (fails, read)) = (fails, same ∙ read)
 
   -- a file that must be sorted
-  pub sorted_fault : (m : ℕ) → r.place ≡ fault.place → Refuses Fails m all fault
-      → (Fails × (r.reason ≡ ReadFault)) ⊎ IsFaultOfBytes Sorted all r
-  sorted_fault m there (inl failure) = inl (failed failure)
+  pub sorted_fault : (m : ℕ) → r.place ≡ fault.place → Refuses Fails m all fault → IsFaultIn Sorted Fails (Some all) r
+  sorted_fault m there (inl (inl memory)) = absurd (other (ap (λ f. f.reason) memory))
+  sorted_fault m there (inl (inr (fails, read, within))) = inl (fails, same ∙ read, omega (arith, there, within))
   sorted_fault m there (inr (v, e, is)) =
       let at : v ≡ verdict_at r.place r.reason =
       (λ i. verdict_at ((ap (λ f. f.place) (sym is) ∙ sym there) i) ((ap (λ f. f.reason) (sym is) ∙ sym same) i)) in
       inr (inl (e ∙ ap Some at))
 
   -- a file of any order that is read whole
-  any_fault : IsRefusalOf Fails all fault → (Fails × (r.reason ≡ ReadFault)) ⊎ IsFaultOfBytes Any all r
+  any_fault : IsRefusalOf Fails all fault → IsFaultIn Any Fails (Some all) r
   any_fault (inl failure) = inl (failed failure)
   any_fault (inr never) = inr never
 
   -- a file of any order that is read as a sorted one
-  tried_fault : (m : ℕ) → r.place ≡ fault.place → Refuses Fails m all fault
-      → ((Fails × (r.reason ≡ ReadFault)) ⊎ IsFaultOfBytes Any all r)
-      ⊎ ((r.reason ≡ Unsorted) × (IsAccepted all → IsFirstUnsorted all r.place))
-  tried_fault m there (inl failure) = inl (inl (failed failure))
-  tried_fault m there (inr (v, e, is)) =
+  tried_fault : (m : ℕ) → Refuses Fails m all fault → IsFaultIn Any Fails (Some all) r ⊎ (r.reason ≡ Unsorted)
+  tried_fault m (inl failure) = inl (inl (failed (failure_of Fails all fault failure)))
+  tried_fault m (inr (v, e, is)) =
       let reason : v.reason ≡ r.reason = ap (λ f. f.reason) (sym is) ∙ sym same in
-      let place : v.place ≡ r.place = ap (λ f. f.place) (sym is) ∙ sym there in
       ⊎_elim
-      (λ unsorted. inr (
-        sym reason ∙ unsorted,
-        λ accepted. e ∙ ap Some (λ i. verdict_at (place i) (unsorted i)),
-      ))
+      (λ unsorted. inr (sym reason ∙ unsorted))
       (λ fine. inl (inr (verdict_refuses all v e (λ unsorted. false≢true (ap is_verdict_reason (sym unsorted) ∙ fine)))))
       ((reasons_of_verdicts all v).1 e)
+
+-- a file whose bytes aren't known may have any fault
+pub unknown_fault : (order : Order) (Fails : Type 0) (r : Fault) → IsFaultIn order Fails None r
+unknown_fault Sorted Fails r = inr tt
+unknown_fault Any Fails r = inr tt
 
 -- a run that is a sorted file has no verdict
 sorted_without : (bytes : List ℕ) (v : Verdict) → (held : VersionSet) → HoldsSorted bytes held → verdict_sorted bytes ≡ Some v → ⊥
@@ -133,8 +132,7 @@ module _ {I : Type 0} (gives : I → InputRest → Type 0) (Fails : Type 0) (ord
     (at : slice_get way.runs.items j ≡ Some run) (there : r.place ≡ offset_in_file run fault.place) where
   -- the fault of this file in its way
   abbrev InWay : Option (List ℕ) → Type 0
-  InWay known = ((Fails × (r.reason ≡ ReadFault)) ⊎ IfSome known (λ all. IsFaultOfBytes order all r))
-      ⊎ ((way.may_be_split ≡ true) × (r.reason ≡ Unsorted) × IfSome known (λ all. IsAccepted all → IsFirstUnsorted all r.place))
+  InWay known = IsFaultIn order Fails known r ⊎ ((way.may_be_split ≡ true) × (r.reason ≡ Unsorted))
 
   module _ (all : List ℕ) (c : InputRest) (fits : FitsBytes (Some all) way) (gave : RunCanGive Fails (Some all) run way.size c) where
     whole_there : run ≡ whole_run → r.place ≡ fault.place
@@ -148,13 +146,13 @@ module _ {I : Type 0} (gives : I → InputRest → Type 0) (Fails : Type 0) (ord
     as_sorted e = run_refuses Fails all run way.size m fault fits.1.0 (c, gave, inr e)
 
     required_in : (o : Order) → order ≡ o → run ≡ whole_run → (source_of m (read_as_of o, c)).refusal ≡ Some fault
-        → (Fails × (r.reason ≡ ReadFault)) ⊎ IsFaultOfBytes order all r
+        → IsFaultIn order Fails (Some all) r
     required_in Sorted is whole e =
-        subst (λ (o : Order). (Fails × (r.reason ≡ ReadFault)) ⊎ IsFaultOfBytes o all r) (sym is)
+        subst (λ (o : Order). IsFaultIn o Fails (Some all) r) (sym is)
         (sorted_fault Fails all fault r same other m (whole_there whole)
         (subst (λ bytes. Refuses Fails m bytes fault) (whole_bytes whole) (as_sorted e)))
     required_in Any is whole e =
-        subst (λ (o : Order). (Fails × (r.reason ≡ ReadFault)) ⊎ IsFaultOfBytes o all r) (sym is)
+        subst (λ (o : Order). IsFaultIn o Fails (Some all) r) (sym is)
         (any_fault Fails all fault r same other
         (subst (λ bytes. IsRefusalOf Fails bytes fault) (whole_bytes whole)
         (units_refuse Fails all run way.size m fault c fits.1.0 gave (any_refused m c fault e))))
@@ -166,23 +164,24 @@ module _ {I : Type 0} (gives : I → InputRest → Type 0) (Fails : Type 0) (ord
         let sorted : (sorted_source m c).refusal ≡ Some fault =
         subst (λ (o : Order). (source_of m (read_as_of o, c)).refusal ≡ Some fault) o e in
         ⊎_elim
-        (λ found. inl (subst (λ (o : Order). (Fails × (r.reason ≡ ReadFault)) ⊎ IsFaultOfBytes o all r) (sym any) found))
-        (λ found. inr (may, found.0, found.1))
-        (tried_fault Fails all fault r same other m (whole_there is)
+        (λ found. inl (subst (λ (o : Order). IsFaultIn o Fails (Some all) r) (sym any) found))
+        (λ unsorted. inr (may, unsorted))
+        (tried_fault Fails all fault r same other m
         (subst (λ bytes. Refuses Fails m bytes fault) (whole_bytes is) (as_sorted sorted)))
     in_way (inr (inr (any, (o, settled, runs)))) e =
         let sorted : (sorted_source m c).refusal ≡ Some fault =
         subst (λ (o : Order). (source_of m (read_as_of o, c)).refusal ≡ Some fault) o e in
-        ⊎_elim
-        (λ failure. inl (inl (failed Fails all fault r same other failure)))
-        (λ found. inl (inr (subst (λ (o : Order). IsFaultOfBytes o all r) (sym any) (λ accepted. (
+        inl (subst (λ (o : Order). IsFaultIn o Fails (Some all) r) (sym any)
+        (⊎_elim
+        (λ failure. inl (failed Fails all fault r same other (failure_of Fails (run_bytes run all) fault failure)))
+        (λ found. inr (λ accepted. (
         let good = all_at (IsSortedRun all) way.runs.items j run (runs accepted) at in
-        sorted_without (run_bytes run all) found.0 good.0 good.1 found.1)))))
-        (as_sorted sorted)
+        sorted_without (run_bytes run all) found.0 good.0 good.1 found.1)))
+        (as_sorted sorted)))
 
   known_in_way : (known : Option (List ℕ)) (c : InputRest) → IsWayOf order known way × FitsBytes known way
       → RunCanGive Fails known run way.size c → (source_of m (read_as_of way.order, c)).refusal ≡ Some fault → InWay known
-  known_in_way None c fits gave e = inl (inr tt)
+  known_in_way None c fits gave e = inl (unknown_fault order Fails r)
   known_in_way (Some all) c fits gave e = in_way all c fits.1 gave fits.0 e
 
 -- ---- the inputs of a file
@@ -196,14 +195,14 @@ ordered_both [] ys a b = b
 ordered_both (x ∷ xs) ys a b = (a.0, ordered_both xs ys a.1 b)
 
 -- a fault is that of one of the inputs
-numbers : (n : ℕ) (xs : List (ReadAs × InputRest)) (fault : Fault) → AreOrdered xs → SomeRefused n xs fault
-    → (n ≤ fault.input) × (fault.input < n + length xs)
-numbers n [] fault ordered s = absurd s
-numbers n ((how, c) ∷ xs) fault ((order, is), ordered) (inl e) =
+numbers : (Ways : ReadAs → Type 0) (n : ℕ) (xs : List (ReadAs × InputRest)) (fault : Fault) → AreOrdered xs
+    → SomeRefused Ways n xs fault → (n ≤ fault.input) × (fault.input < n + length xs)
+numbers Ways n [] fault ordered s = absurd s
+numbers Ways n ((how, c) ∷ xs) fault ((order, is), ordered) (inl (among, e)) =
     let at : fault.input ≡ n = has_number order n c fault (subst (λ (h : ReadAs). (source_of n (h, c)).refusal ≡ Some fault) is e) in
     (omega (arith, at), omega (arith, at))
-numbers n (x ∷ xs) fault (first, ordered) (inr more) =
-    let at = numbers (n + 1) xs fault ordered more in
+numbers Ways n (x ∷ xs) fault (first, ordered) (inr more) =
+    let at = numbers Ways (n + 1) xs fault ordered more in
     let low = at.0 in let high = at.1 in
     (omega (arith, low), omega (arith, high))
 
@@ -265,168 +264,178 @@ module _ {F R I : Type 0} (fails : F → Type 0) (bytes : F → Option (List ℕ
         ap length s.only ∙ ap length (sym fits.0),
       )
 
-  -- ---- the fault of one of a file's inputs
-  -- a run of a file, whose input is refused
-  pub record RefusedRun (n : ℕ) (file : JobFile F R) (way : FileWay) (fault : Fault) : Type 0 where
-    pub j : ℕ
-    pub run : SortedRun
-    pub input_is : fault.input ≡ n + j
-    pub at : slice_get way.runs.items j ≡ Some run
-    pub in_way : (r : Fault) → r.reason ≡ fault.reason → (fault.reason ≡ Memory → ⊥) → r.place ≡ offset_in_file run fault.place
-        → IsFaultInWay fails bytes can order file way r
+  module _ (Ways : ReadAs → Type 0) where
+    -- ---- the fault of one of a file's inputs
+    -- a run of a file, whose input is refused
+    pub record RefusedRun (n : ℕ) (file : JobFile F R) (way : FileWay) (fault : Fault) : Type 0 where
+      pub j : ℕ
+      pub run : SortedRun
+      pub input_is : fault.input ≡ n + j
+      pub at : slice_get way.runs.items j ≡ Some run
+      pub among : Ways (read_as_of way.order)
+      pub in_way : (r : Fault) → r.reason ≡ fault.reason → (fault.reason ≡ Memory → ⊥) → r.place ≡ offset_in_file run fault.place
+          → IsFaultInWay fails bytes can order file way r
 
-  refused_run : (f : Bor F) (end : EndRule) (way : FileWay) (fault : Fault) (n : ℕ) (before : List SortedRun) (inputs : List (InputFile I))
-      (runs : List SortedRun) (given : List (ReadAs × InputRest)) → FileFits {R = R} bytes order (File f end) way → fault.place < 2 ^ 64
-      → way.runs.items ≡ before ++ runs
-      → Pairwise (OpensRun gives (fails f.now) (bytes f.now) way.size way.order) inputs runs → Given inputs given
-      → SomeRefused (n + length before) given fault → RefusedRun n (File f end) way fault
-  refused_run f end way fault n before [] runs [] fits small is opens g s = absurd s
-  refused_run f end way fault n before [] runs (x ∷ given) fits small is opens g s = absurd g
-  refused_run f end way fault n before (i ∷ inputs) [] given fits small is opens g s = absurd opens
-  refused_run f end way fault n before (i ∷ inputs) (run ∷ runs) [] fits small is opens g s = absurd g
-  refused_run f end way fault n before (i ∷ inputs) (run ∷ runs) ((how, c) ∷ given) fits small is opens g (inl e) =
-      let m : ℕ = n + length before in
-      let order_is : how ≡ read_as_of way.order = sym g.0.0 ∙ opens.0.order_is in
-      let refused : (source_of m (read_as_of way.order, c)).refusal ≡ Some fault =
-      subst (λ (h : ReadAs). (source_of m (h, c)).refusal ≡ Some fault) order_is e in
-      let at : slice_get way.runs.items (length before) ≡ Some run =
-      ap (λ (xs : List SortedRun). slice_get xs (length before)) is ∙ get_after before run runs in
-      record {
-        j = length before;
-        run = run;
-        input_is = has_number way.order m c fault refused;
-        at = at;
-        in_way = λ r same other there. known_in_way gives (fails f.now) order way fault r same other small (length before) m run at there
-            (bytes f.now) c fits (opens.0.gives_run c (plain_given gives i how c opens.0.end_is g.0)) refused;
-      }
-  refused_run f end way fault n before (i ∷ inputs) (run ∷ runs) (x ∷ given) fits small is opens g (inr more) =
-      let next : n + length before + 1 ≡ n + length (before ++ run ∷ []) = omega (arith, length-append before (run ∷ [])) in
-      refused_run f end way fault n (before ++ run ∷ []) inputs runs given fits small (is ∙ sym (append_assoc before (run ∷ []) runs))
-      opens.1 g.1
-      (subst (λ (k : ℕ). SomeRefused k given fault) next more)
+    refused_run : (f : Bor F) (end : EndRule) (way : FileWay) (fault : Fault) (n : ℕ) (before : List SortedRun)
+        (inputs : List (InputFile I))
+        (runs : List SortedRun) (given : List (ReadAs × InputRest)) → FileFits {R = R} bytes order (File f end) way → fault.place < 2 ^ 64
+        → way.runs.items ≡ before ++ runs
+        → Pairwise (OpensRun gives (fails f.now) (bytes f.now) way.size way.order) inputs runs → Given inputs given
+        → SomeRefused Ways (n + length before) given fault → RefusedRun n (File f end) way fault
+    refused_run f end way fault n before [] runs [] fits small is opens g s = absurd s
+    refused_run f end way fault n before [] runs (x ∷ given) fits small is opens g s = absurd g
+    refused_run f end way fault n before (i ∷ inputs) [] given fits small is opens g s = absurd opens
+    refused_run f end way fault n before (i ∷ inputs) (run ∷ runs) [] fits small is opens g s = absurd g
+    refused_run f end way fault n before (i ∷ inputs) (run ∷ runs) ((how, c) ∷ given) fits small is opens g (inl (among, e)) =
+        let m : ℕ = n + length before in
+        let order_is : how ≡ read_as_of way.order = sym g.0.0 ∙ opens.0.order_is in
+        let refused : (source_of m (read_as_of way.order, c)).refusal ≡ Some fault =
+        subst (λ (h : ReadAs). (source_of m (h, c)).refusal ≡ Some fault) order_is e in
+        let at : slice_get way.runs.items (length before) ≡ Some run =
+        ap (λ (xs : List SortedRun). slice_get xs (length before)) is ∙ get_after before run runs in
+        record {
+          j = length before;
+          run = run;
+          input_is = has_number way.order m c fault refused;
+          at = at;
+          among = subst Ways order_is among;
+          in_way = λ r same other there. known_in_way gives (fails f.now) order way fault r same other small (length before) m run at there
+              (bytes f.now) c fits (opens.0.gives_run c (plain_given gives i how c opens.0.end_is g.0)) refused;
+        }
+    refused_run f end way fault n before (i ∷ inputs) (run ∷ runs) (x ∷ given) fits small is opens g (inr more) =
+        let next : n + length before + 1 ≡ n + length (before ++ run ∷ []) = omega (arith, length-append before (run ∷ [])) in
+        refused_run f end way fault n (before ++ run ∷ []) inputs runs given fits small (is ∙ sym (append_assoc before (run ∷ []) runs))
+        opens.1 g.1
+        (subst (λ (k : ℕ). SomeRefused Ways k given fault) next more)
 
-  refused_file : (file : JobFile F R) (way : FileWay) (fault : Fault) (n : ℕ) (inputs : List (InputFile I))
-      (given : List (ReadAs × InputRest)) → FileFits bytes order file way → fault.place < 2 ^ 64
-      → OpensFile fails bytes can gives file way inputs → Given inputs given → SomeRefused n given fault → RefusedRun n file way fault
-  refused_file (File f end) way fault n inputs given fits small opens g s =
-      let same : n + 0 ≡ n = omega arith in
-      refused_run f end way fault n [] inputs way.runs.items given fits small refl opens g
-      (subst (λ (k : ℕ). SomeRefused k given fault) (sym same) s)
-  refused_file (Stream r end) way fault n inputs given fits small opens g s =
-      let gave = stream_gave r end way inputs given fits opens g in
-      ⊎_elim
-      (λ e. record {
-        j = 0;
-        run = whole_run;
-        input_is = has_number order n (by_rule end gave.c) fault e ∙ (let same : n ≡ n + 0 = omega arith in same);
-        at = ap (λ (xs : List SortedRun). slice_get xs 0) fits.0;
-        in_way = λ r same other there. inl (
-          gave.c,
-          gave.gave,
-          (
-            n,
-            e ∙ ap Some (λ i. record {
-              input = has_number order n (by_rule end gave.c) fault e i;
-              place = (sym (there ∙ whole_place fault.place small)) i;
-              reason = (sym same) i;
-            }),
-          ),
-        );
-      })
-      (λ none. absurd none)
-      (subst (λ (xs : List (ReadAs × InputRest)). SomeRefused n xs fault) gave.only s)
+    refused_file : (file : JobFile F R) (way : FileWay) (fault : Fault) (n : ℕ) (inputs : List (InputFile I))
+        (given : List (ReadAs × InputRest)) → FileFits bytes order file way → fault.place < 2 ^ 64
+        → OpensFile fails bytes can gives file way inputs → Given inputs given → SomeRefused Ways n given fault
+        → RefusedRun n file way fault
+    refused_file (File f end) way fault n inputs given fits small opens g s =
+        let same : n + 0 ≡ n = omega arith in
+        refused_run f end way fault n [] inputs way.runs.items given fits small refl opens g
+        (subst (λ (k : ℕ). SomeRefused Ways k given fault) (sym same) s)
+    refused_file (Stream r end) way fault n inputs given fits small opens g s =
+        let gave = stream_gave r end way inputs given fits opens g in
+        ⊎_elim
+        (λ p. (let e = p.1 in record {
+          j = 0;
+          run = whole_run;
+          input_is = has_number order n (by_rule end gave.c) fault e ∙ (let same : n ≡ n + 0 = omega arith in same);
+          at = ap (λ (xs : List SortedRun). slice_get xs 0) fits.0;
+          among = subst (λ (o : Order). Ways (read_as_of o)) (sym fits.1) p.0;
+          in_way = λ r same other there. inl (
+            gave.c,
+            gave.gave,
+            (
+              n,
+              e ∙ ap Some (λ i. record {
+                input = has_number order n (by_rule end gave.c) fault e i;
+                place = (sym (there ∙ whole_place fault.place small)) i;
+                reason = (sym same) i;
+              }),
+            ),
+          );
+        }))
+        (λ none. absurd none)
+        (subst (λ (xs : List (ReadAs × InputRest)). SomeRefused Ways n xs fault) gave.only s)
 
-  -- ---- the fault of one of the files' inputs
-  -- the fault is that of one of these files; the files are numbered from `number` on
-  pub record Found (number : ℕ) (files : List (JobFile F R)) (ways : List FileWay) (r : Fault) : Type 0 where
-    pub k : ℕ
-    pub input_is : r.input ≡ number + k
-    pub file : JobFile F R
-    pub way : FileWay
-    pub file_is : slice_get files k ≡ Some file
-    pub way_is : slice_get ways k ≡ Some way
-    pub fault_is : IsFaultInWay fails bytes can order file way r
+    -- ---- the fault of one of the files' inputs
+    -- the fault is that of one of these files; the files are numbered from `number` on
+    pub record Found (number : ℕ) (files : List (JobFile F R)) (ways : List FileWay) (r : Fault) : Type 0 where
+      pub k : ℕ
+      pub input_is : r.input ≡ number + k
+      pub file : JobFile F R
+      pub way : FileWay
+      pub file_is : slice_get files k ≡ Some file
+      pub way_is : slice_get ways k ≡ Some way
+      pub among : Ways (read_as_of way.order)
+      pub fault_is : IsFaultInWay fails bytes can order file way r
 
-  in_run : (number n : ℕ) (file : JobFile F R) (way : FileWay) (files : List (JobFile F R)) (ways : List FileWay) (fault other : Fault)
-      → (run : RefusedRun n file way fault)
-      → let r = fault_in_run_or number (slice_get way.runs.items (fault.input - n)) fault other in
-      (r ≡ memory_fault) ⊎ Found number (file ∷ files) (way ∷ ways) r
-  in_run number n file way files ways fault other run =
-      let index : fault.input - n ≡ run.j = omega (arith, run.input_is) in
-      let at : slice_get way.runs.items (fault.input - n) ≡ Some run.run = ap (slice_get way.runs.items) index ∙ run.at in
-      let place : ℕ = offset_in_file run.run fault.place in
-      subst (λ (found : Option SortedRun). let r = fault_in_run_or number found fault other in
-      (r ≡ memory_fault) ⊎ Found number (file ∷ files) (way ∷ ways) r) (sym at)
-      (⊎_elim (λ memory. inl memory)
-      (λ is. inr (record {
-        k = 0;
-        input_is = is.input_is ∙ (let same : number ≡ number + 0 = omega arith in same);
-        file = file;
-        way = way;
-        file_is = refl;
-        way_is = refl;
-        fault_is = run.in_way (fault_at number place fault.reason) is.reason_is is.other is.place_is;
-      }))
-      (at_is number place fault.reason))
+    in_run : (number n : ℕ) (file : JobFile F R) (way : FileWay) (files : List (JobFile F R)) (ways : List FileWay) (fault other : Fault)
+        → (run : RefusedRun n file way fault)
+        → let r = fault_in_run_or number (slice_get way.runs.items (fault.input - n)) fault other in
+        (r ≡ memory_fault) ⊎ Found number (file ∷ files) (way ∷ ways) r
+    in_run number n file way files ways fault other run =
+        let index : fault.input - n ≡ run.j = omega (arith, run.input_is) in
+        let at : slice_get way.runs.items (fault.input - n) ≡ Some run.run = ap (slice_get way.runs.items) index ∙ run.at in
+        let place : ℕ = offset_in_file run.run fault.place in
+        subst (λ (found : Option SortedRun). let r = fault_in_run_or number found fault other in
+        (r ≡ memory_fault) ⊎ Found number (file ∷ files) (way ∷ ways) r) (sym at)
+        (⊎_elim (λ memory. inl memory)
+        (λ is. inr (record {
+          k = 0;
+          input_is = is.input_is ∙ (let same : number ≡ number + 0 = omega arith in same);
+          file = file;
+          way = way;
+          file_is = refl;
+          way_is = refl;
+          among = run.among;
+          fault_is = run.in_way (fault_at number place fault.reason) is.reason_is is.other is.place_is;
+        }))
+        (at_is number place fault.reason))
 
-  files_ordered : (files : List (JobFile F R)) (ways : List FileWay) (inputs : List (InputFile I)) (given : List (ReadAs × InputRest))
-      → FilesFit bytes order files ways → OpensFiles fails bytes can gives files ways inputs → Given inputs given → AreOrdered given
-  files_ordered [] ways [] [] fits opens g = tt
-  files_ordered [] ways [] (x ∷ given) fits opens g = absurd g
-  files_ordered [] ways (i ∷ inputs) given fits opens g = absurd (let e : i ∷ inputs ≡ [] = opens in cc)
-  files_ordered (file ∷ files) [] inputs given fits opens g = absurd opens
-  files_ordered (file ∷ files) (way ∷ ways) inputs given fits (added, others, is, one, more) g =
-      let c = cut (InputFileCanGive gives) added others given
-      (as_pairs (InputFileCanGive gives) (added ++ others) given (subst (λ (xs : List (InputFile I)). Given xs given) is g)) in
-      let first = file_ordered file way added c.before fits.0 one (as_given (InputFileCanGive gives) added c.before c.first) in
-      let second = files_ordered files ways others c.after fits.1 more (as_given (InputFileCanGive gives) others c.after c.second) in
-      subst AreOrdered (sym c.joined) (ordered_both c.before c.after first.0 second)
+    files_ordered : (files : List (JobFile F R)) (ways : List FileWay) (inputs : List (InputFile I)) (given : List (ReadAs × InputRest))
+        → FilesFit bytes order files ways → OpensFiles fails bytes can gives files ways inputs → Given inputs given → AreOrdered given
+    files_ordered [] ways [] [] fits opens g = tt
+    files_ordered [] ways [] (x ∷ given) fits opens g = absurd g
+    files_ordered [] ways (i ∷ inputs) given fits opens g = absurd (let e : i ∷ inputs ≡ [] = opens in cc)
+    files_ordered (file ∷ files) [] inputs given fits opens g = absurd opens
+    files_ordered (file ∷ files) (way ∷ ways) inputs given fits (added, others, is, one, more) g =
+        let c = cut (InputFileCanGive gives) added others given
+        (as_pairs (InputFileCanGive gives) (added ++ others) given (subst (λ (xs : List (InputFile I)). Given xs given) is g)) in
+        let first = file_ordered file way added c.before fits.0 one (as_given (InputFileCanGive gives) added c.before c.first) in
+        let second = files_ordered files ways others c.after fits.1 more (as_given (InputFileCanGive gives) others c.after c.second) in
+        subst AreOrdered (sym c.joined) (ordered_both c.before c.after first.0 second)
 
-  -- The fault of an input is the fault of its file.
-  pub fault_found : (files : List (JobFile F R)) (ways : List FileWay) (inputs : List (InputFile I)) (given : List (ReadAs × InputRest))
-      (number n : ℕ) (fault : Fault) → fault.place < 2 ^ 64 → FilesFit bytes order files ways
-      → OpensFiles fails bytes can gives files ways inputs → Given inputs given → SomeRefused n given fault
-      → (fault_in_files number ways (fault.input - n) fault ≡ memory_fault)
-      ⊎ Found number files ways (fault_in_files number ways (fault.input - n) fault)
-  fault_found [] ways [] [] number n fault small fits opens g s = absurd s
-  fault_found [] ways [] (x ∷ given) number n fault small fits opens g s = absurd g
-  fault_found [] ways (i ∷ inputs) given number n fault small fits opens g s = absurd (let e : i ∷ inputs ≡ [] = opens in cc)
-  fault_found (file ∷ files) [] inputs given number n fault small fits opens g s = absurd opens
-  fault_found (file ∷ files) (way ∷ ways) inputs given number n fault small fits (added, others, is, one, more) g s =
-      let c = cut (InputFileCanGive gives) added others given
-      (as_pairs (InputFileCanGive gives) (added ++ others) given (subst (λ (xs : List (InputFile I)). Given xs given) is g)) in
-      let first = as_given (InputFileCanGive gives) added c.before c.first in
-      let second = as_given (InputFileCanGive gives) others c.after c.second in
-      let sized = file_ordered file way added c.before fits.0 one first in
-      ⊎_elim
-      (λ here. in_run number n file way files ways fault (fault_in_files (number + 1) ways (fault.input - n - length way.runs.items) fault)
-      (refused_file file way fault n added c.before fits.0 small one first here))
-      (λ later. (
-      let between = numbers (n + length c.before) c.after fault
-      (files_ordered files ways others c.after fits.1 more second) later in
-      let low = between.0 in
-      let long = sized.1 in
-      let none : slice_get way.runs.items (fault.input - n) ≡ None =
-      slice_get_past way.runs.items (fault.input - n) (omega (arith, low, long)) in
-      let index : fault.input - (n + length c.before) ≡ fault.input - n - length way.runs.items = omega (arith, low, long) in
-      let next : Fault = fault_in_files (number + 1) ways (fault.input - n - length way.runs.items) fault in
-      let rest = subst (λ (k : ℕ). (fault_in_files (number + 1) ways k fault ≡ memory_fault)
-      ⊎ Found (number + 1) files ways (fault_in_files (number + 1) ways k fault)) index
-      (fault_found files ways others c.after (number + 1) (n + length c.before) fault small fits.1 more second later) in
-      subst (λ (found : Option SortedRun). let r = fault_in_run_or number found fault next in
-      (r ≡ memory_fault) ⊎ Found number (file ∷ files) (way ∷ ways) r) (sym none)
-      (⊎_elim (λ memory. inl memory)
-      (λ f. inr (record {
-        k = suc f.k;
-        input_is = f.input_is ∙ (let same : number + 1 + f.k ≡ number + suc f.k = omega arith in same);
-        file = f.file;
-        way = f.way;
-        file_is = f.file_is;
-        way_is = f.way_is;
-        fault_is = f.fault_is;
-      }))
-      rest)))
-      (some_of_both n c.before c.after fault (subst (λ (xs : List (ReadAs × InputRest)). SomeRefused n xs fault) c.joined s))
+    -- The fault of an input is the fault of its file.
+    pub fault_found : (files : List (JobFile F R)) (ways : List FileWay) (inputs : List (InputFile I)) (given : List (ReadAs × InputRest))
+        (number n : ℕ) (fault : Fault) → fault.place < 2 ^ 64 → FilesFit bytes order files ways
+        → OpensFiles fails bytes can gives files ways inputs → Given inputs given → SomeRefused Ways n given fault
+        → (fault_in_files number ways (fault.input - n) fault ≡ memory_fault)
+        ⊎ Found number files ways (fault_in_files number ways (fault.input - n) fault)
+    fault_found [] ways [] [] number n fault small fits opens g s = absurd s
+    fault_found [] ways [] (x ∷ given) number n fault small fits opens g s = absurd g
+    fault_found [] ways (i ∷ inputs) given number n fault small fits opens g s = absurd (let e : i ∷ inputs ≡ [] = opens in cc)
+    fault_found (file ∷ files) [] inputs given number n fault small fits opens g s = absurd opens
+    fault_found (file ∷ files) (way ∷ ways) inputs given number n fault small fits (added, others, is, one, more) g s =
+        let c = cut (InputFileCanGive gives) added others given
+        (as_pairs (InputFileCanGive gives) (added ++ others) given (subst (λ (xs : List (InputFile I)). Given xs given) is g)) in
+        let first = as_given (InputFileCanGive gives) added c.before c.first in
+        let second = as_given (InputFileCanGive gives) others c.after c.second in
+        let sized = file_ordered file way added c.before fits.0 one first in
+        ⊎_elim
+        (λ here. in_run number n file way files ways fault
+        (fault_in_files (number + 1) ways (fault.input - n - length way.runs.items) fault)
+        (refused_file file way fault n added c.before fits.0 small one first here))
+        (λ later. (
+        let between = numbers Ways (n + length c.before) c.after fault
+        (files_ordered files ways others c.after fits.1 more second) later in
+        let low = between.0 in
+        let long = sized.1 in
+        let none : slice_get way.runs.items (fault.input - n) ≡ None =
+        slice_get_past way.runs.items (fault.input - n) (omega (arith, low, long)) in
+        let index : fault.input - (n + length c.before) ≡ fault.input - n - length way.runs.items = omega (arith, low, long) in
+        let next : Fault = fault_in_files (number + 1) ways (fault.input - n - length way.runs.items) fault in
+        let rest = subst (λ (k : ℕ). (fault_in_files (number + 1) ways k fault ≡ memory_fault)
+        ⊎ Found (number + 1) files ways (fault_in_files (number + 1) ways k fault)) index
+        (fault_found files ways others c.after (number + 1) (n + length c.before) fault small fits.1 more second later) in
+        subst (λ (found : Option SortedRun). let r = fault_in_run_or number found fault next in
+        (r ≡ memory_fault) ⊎ Found number (file ∷ files) (way ∷ ways) r) (sym none)
+        (⊎_elim (λ memory. inl memory)
+        (λ f. inr (record {
+          k = suc f.k;
+          input_is = f.input_is ∙ (let same : number + 1 + f.k ≡ number + suc f.k = omega arith in same);
+          file = f.file;
+          way = f.way;
+          file_is = f.file_is;
+          way_is = f.way_is;
+          among = f.among;
+          fault_is = f.fault_is;
+        }))
+        rest)))
+        (some_of_both Ways n c.before c.after fault (subst (λ (xs : List (ReadAs × InputRest)). SomeRefused Ways n xs fault) c.joined s))
 
   -- A fault of the output gets the number of files.
   pub output_found : (files : List (JobFile F R)) (ways : List FileWay) (inputs : List (InputFile I)) (given : List (ReadAs × InputRest))

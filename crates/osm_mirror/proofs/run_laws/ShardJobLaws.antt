@@ -12,18 +12,11 @@ use Rattle.osm_model.specs.declared.kind.Kind.TheVariants.{Node}
 use Rattle.osm_model.specs.declared.object.Object.{Object}
 use Rattle.osm_files.specs.declared.fault.Fault.{Fault}
 use Rattle.osm_files.specs.declared.format.Format.TheVariants.{Opl}
-use Rattle.osm_files.specs.declared.reason.Reason.TheVariants.{Memory}
-use Rattle.osm_files.specs.Extent.{RunCanGive}
-use Rattle.osm_files.specs.Fault.{fault_at}
+use Rattle.osm_files.specs.declared.end_rule.EndRule.{EndRule}
+use Rattle.osm_files.specs.Fault.{memory_fault}
 use Rattle.osm_files.specs.Held.{HoldsSorted}
-use Rattle.osm_files.specs.Input.{InputRest}
-use Rattle.osm_files.specs.Load.{StopsOpening}
 use Rattle.osm_files.specs.Output.{Change, Appends}
-use Rattle.osm_files.specs.SortedRun.{whole_run}
 use Rattle.osm_files.specs.Spell.{spell}
-use Rattle.osm_files.proofs.RunBytes.{run_given}
-use Rattle.osm_files.proofs.RunOrderLaws.{Refuses, run_refuses}
-use Rattle.osm_files.proofs.SplitLaws.{whole_file}
 use Rattle.osm_model.specs.Sets.{size}
 use Rattle.osm_model.specs.Order.{object_order}
 use Rattle.osm_merge.specs.declared.merge.Counts.{Counts}
@@ -33,15 +26,14 @@ use Rattle.osm_merge.specs.declared.span.Span.{Span}
 use Rattle.osm_merge.specs.declared.selection.Selection.{Selection}
 use Rattle.osm_merge.specs.Selected.{selection_of}
 use Rattle.osm_merge.specs.Slice.{spans}
-use Rattle.osm_mirror.specs.declared.run.check.CheckReport.{CheckReport}
 use Rattle.osm_mirror.specs.declared.run.shard_job.ShardJob.{ShardJob}
 use Rattle.osm_mirror.specs.run.Bounds.{bounds_of, span_at, shard_span}
-use Rattle.osm_mirror.specs.run.Check.{Reports}
 use Rattle.osm_mirror.specs.run.Job.{union_of}
 use Rattle.osm_mirror.specs.run.Slices.{AreSlicesWithin}
-use Rattle.osm_mirror.specs.run.ShardRefusal.{IsFileRefusal, IsFaultOfFile, IsFirstFault, AreRefused}
+use Rattle.osm_mirror.specs.run.FilesRefusal.{IsFaultOfFile, IsSoundFile, IsFaultIfSound}
+use Rattle.osm_mirror.specs.run.ShardRefusal.{IsFileRefusal, IsFaultByRule, AreRefused}
+use Rattle.osm_mirror.specs.declared.run.files_job.Order.TheVariants.{Sorted}
 use Rattle.osm_mirror.specs.run.ShardJob.{shard_slices, shard_outputs, IsSpanJob, IsShardJob, ShardJobsWriteTheJob}
-use Rattle.osm_mirror.proofs.run_laws.FilesRefusalLaws.{at_is, sorted_fault}
 use Rattle.osm_mirror.proofs.run_laws.ShardSpanLaws.{few_spans, bounds_ascend}
 use Rattle.osm_mirror.proofs.run_laws.SlicedFileLaws.{slices_write_the_job}
 
@@ -132,77 +124,43 @@ shard_is job all held span is change counts done = record {
 }
 
 -- ---- the first fault of a file
--- a job over a whole file whose source is refused
-whole_fault : (Fails : Type 0) (known : Option (List ℕ)) (size : ℕ) (c : InputRest) (first : Fault) (r : Fault)
-    → size < 2 ^ 64 → IfSome known (λ all. size ≡ length all) → RunCanGive Fails known whole_run size c → StopsOpening 0 c first
-    → r.place ≡ first.place → r.reason ≡ first.reason → (first.reason ≡ Memory → ⊥) → IsFaultOfFile Fails known r
-whole_fault Fails None size c first r small sized gives stops there same other = inr tt
-whole_fault Fails (Some all) size c first r small sized gives stops there same other =
-    sorted_fault Fails all first r same other 0 there
-    (subst (λ bytes. Refuses Fails 0 bytes first) (whole_file all (omega (arith, small, sized)))
-    (run_refuses Fails all whole_run size 0 first (sym sized) (c, gives, stops)))
+module _ {F : Type 0} (known : F → Option (List ℕ)) (fails : F → Type 0) (end : EndRule) where
+  -- a sound file has a fault only if a read failed, or its bytes aren't known
+  sound_fault : (Fails : Type 0) (k : Option (List ℕ)) (fault first : Fault) → IsSoundFile k Sorted end → first.reason ≡ fault.reason
+      → IfSome k (λ all. first.place ≤ length all) → (fault ≡ memory_fault → ⊥) → IsFileRefusal Fails k fault
+      → IsFaultOfFile Fails k Sorted end first
+  sound_fault Fails k fault first sound reason within other (inl (inl memory)) = absurd (other memory)
+  sound_fault Fails k fault first sound reason within other (inl (inr (failed, read))) = inl (failed, reason ∙ read, within)
+  sound_fault Fails None fault first sound reason within other (inr none) = inr tt
+  sound_fault Fails (Some all) fault first sound reason within other (inr none) = absurd (none sound.0.0 sound.0.1)
 
--- a whole file whose source is refused has its refusal as its first fault
-pub first_is : (Fails : Type 0) (known : Option (List ℕ)) (size : ℕ) (c : InputRest) (first fault : Fault) → size < 2 ^ 64
-    → IfSome known (λ all. size ≡ length all) → RunCanGive Fails known whole_run size c → StopsOpening 0 c first
-    → IsFirstFault Fails known fault (fault_at fault.input first.place first.reason)
-first_is Fails known size c first fault small sized gives stops =
-    ⊎_elim (λ memory. inl memory)
-    (λ at. inr (inl (
-      at.input_is,
-      whole_fault Fails known size c first (fault_at fault.input first.place first.reason) small sized gives stops at.place_is
-          at.reason_is at.other,
-    )))
-    (at_is fault.input first.place first.reason)
-
--- a whole file that is accepted is sorted
-pub whole_sorted : (Fails : Type 0) (known : Option (List ℕ)) (size : ℕ) (c : InputRest) (report : CheckReport) → size < 2 ^ 64
-    → IfSome known (λ all. size ≡ length all) → RunCanGive Fails known whole_run size c → Reports c report → report.sorted ≡ true
-    → IfSome known (λ all. (held : VersionSet) × HoldsSorted all held)
-whole_sorted Fails None size c report small sized gives reports is = tt
-whole_sorted Fails (Some all) size c report small sized gives reports is = (
-  reports.held,
-  subst (λ bytes. HoldsSorted bytes reports.held)
-      (run_given Fails all whole_run size c (sym sized) gives reports.file.unbroken ∙ whole_file all (omega (arith, small, sized)))
-      (reports.sorted.0 is),
-)
-
-module _ {F : Type 0} (known : F → Option (List ℕ)) (fails : F → Type 0) where
-  -- a file that is sorted, if its bytes are known, has any fault only if they aren't known
-  settled : (Fails : Type 0) (k : Option (List ℕ)) (fault : Fault) → IfSome k (λ all. (held : VersionSet) × HoldsSorted all held)
-      → IfSome k (λ all. (held : VersionSet) → HoldsSorted all held → ⊥) → IsFaultOfFile Fails k fault
-  settled Fails None fault sorted none = inr tt
-  settled Fails (Some all) fault sorted none = absurd (none sorted.0 sorted.1)
-
-  -- the fault of a file that is sorted as far as its bytes are known
-  same_fault : (files : List F) (file : F) (fault : Fault) → slice_get files fault.input ≡ Some file
-      → IfSome (known file) (λ all. (held : VersionSet) × HoldsSorted all held) → IsFileRefusal (fails file) (known file) fault
-      → AreRefused known fails IsFaultOfFile files fault
-  same_fault files file fault at sorted (inl (inl memory)) = inl memory
-  same_fault files file fault at sorted (inl (inr failed)) = inr (inl (file, at, inl failed))
-  same_fault files file fault at sorted (inr none) = inr (inl (file, at, settled (fails file) (known file) fault sorted none))
-
-  same_named : (files : List F) (file : F) (fault : Fault) → slice_get files fault.input ≡ Some file
-      → IfSome (known file) (λ all. (held : VersionSet) × HoldsSorted all held)
-      → AreRefused known fails IsFileRefusal files fault → AreRefused known fails IsFaultOfFile files fault
-  same_named files file fault at sorted (inl memory) = inl memory
-  same_named files file fault at sorted (inr (inl (one, there, of))) =
+  sound_named : (files : List F) (file : F) (fault first : Fault) → slice_get files fault.input ≡ Some file
+      → IsSoundFile (known file) Sorted end → first.reason ≡ fault.reason → first.input ≡ fault.input
+      → IfSome (known file) (λ all. first.place ≤ length all) → (fault ≡ memory_fault → ⊥)
+      → AreRefused known fails IsFileRefusal files fault → AreRefused known fails (IsFaultByRule end) files first
+  sound_named files file fault first at sound reason input within other (inl memory) = absurd (other memory)
+  sound_named files file fault first at sound reason input within other (inr (inl (one, there, of))) =
       let is : one ≡ file = (let e : Some one ≡ Some file = sym there ∙ at in cc) in
-      same_fault files file fault at sorted (subst (λ (x : F). IsFileRefusal (fails x) (known x) fault) is of)
-  same_named files file fault at sorted (inr (inr long)) = inr (inr long)
+      inr (inl (
+        file,
+        ap (slice_get files) input ∙ at,
+        sound_fault (fails file) (known file) fault first sound reason within other
+            (subst (λ (x : F). IsFileRefusal (fails x) (known x) fault) is of),
+      ))
+  sound_named files file fault first at sound reason input within other (inr (inr long)) = inr (inr (reason ∙ long.0, long.1))
 
-  -- a file that a fault names has its first fault, or stays as it is
+  -- a file that a fault names has its first fault
   pub first_named : (files : List F) (file : F) (fault first : Fault) → slice_get files fault.input ≡ Some file
-      → IsFirstFault (fails file) (known file) fault first
-      → AreRefused known fails IsFileRefusal files fault → AreRefused known fails IsFaultOfFile files first
-  first_named files file fault first at (inl memory) refused = inl memory
-  first_named files file fault first at (inr (inl (input, of))) refused = inr (inl (file, ap (slice_get files) input ∙ at, of))
-  first_named files file fault first at (inr (inr (same, sorted))) refused =
-      subst (λ (f : Fault). AreRefused known fails IsFaultOfFile files f) (sym same) (same_named files file fault at sorted refused)
+      → IsFaultIfSound (fails file) (known file) Sorted end fault first → (fault ≡ memory_fault → ⊥)
+      → AreRefused known fails IsFileRefusal files fault → AreRefused known fails (IsFaultByRule end) files first
+  first_named files file fault first at (inl (inl memory)) other refused = inl memory
+  first_named files file fault first at (inl (inr (input, of))) other refused = inr (inl (file, ap (slice_get files) input ∙ at, of))
+  first_named files file fault first at (inr (sound, reason, input, within)) other refused =
+      sound_named files file fault first at sound reason input within other refused
 
   -- a fault that names no file is the same
   pub unnamed : (files : List F) (fault : Fault) → slice_get files fault.input ≡ None
-      → AreRefused known fails IsFileRefusal files fault → AreRefused known fails IsFaultOfFile files fault
+      → AreRefused known fails IsFileRefusal files fault → AreRefused known fails (IsFaultByRule end) files fault
   unnamed files fault none (inl memory) = inl memory
   unnamed files fault none (inr (inl (one, there, of))) = absurd (let e : None ≡ Some one = sym none ∙ there in cc)
   unnamed files fault none (inr (inr long)) = inr (inr long)

@@ -10,8 +10,9 @@ use Rattle.osm_model.specs.Pairwise.{Pairwise}
 use Rattle.osm_files.specs.declared.fault.Fault.{Fault}
 use Rattle.osm_files.specs.declared.format.Format.{Format}
 use Rattle.osm_files.specs.declared.reason.Reason.TheVariants.{Memory}
+use Rattle.osm_files.specs.declared.end_rule.EndRule.{EndRule}
 use Rattle.osm_files.specs.Extent.{RunCanGive}
-use Rattle.osm_files.specs.Fault.{memory_fault, fault_at, IsOfFile}
+use Rattle.osm_files.specs.Fault.{memory_fault, too_long_fault, fault_at, IsOfFile}
 use Rattle.osm_files.specs.Held.{HoldsSorted}
 use Rattle.osm_files.specs.Input.{InputRest}
 use Rattle.osm_files.specs.Output.{Change, Appends}
@@ -34,12 +35,13 @@ use Rattle.osm_mirror.specs.run.FilesRefusal.{IsOutputFault}
 use Rattle.osm_mirror.specs.run.Probes.{HaveBytes}
 use Rattle.osm_mirror.specs.run.Job.{union_of}
 use Rattle.osm_mirror.specs.run.ShardExtent.{IsExtentOf, IsInputOf, AreInputsOf}
-use Rattle.osm_mirror.specs.run.ShardRefusal.{IsFileRefusal, IsFaultOfFile, fault_in_extent, AreRefused, IsGood}
-use Rattle.osm_mirror.specs.run.ShardRefusal.{RefusesSpan}
+use Rattle.osm_mirror.specs.run.ShardRefusal.{IsFileRefusal, IsFaultByRule, fault_in_extent, AreRefused, IsGood}
+use Rattle.osm_mirror.specs.run.ShardRefusal.{RefusesSpan, IsCutIfGood, IsLong}
 use Rattle.osm_mirror.specs.run.ShardJob.{shard_slices, IsSpanJob}
 use Rattle.osm_mirror.specs.run.SliceJob.{SliceFileCanGive, given_slice, given_slices, HasSlice, GivesSlice, IsSliceJob, RefusesSlice}
 use Rattle.osm_mirror.proofs.run_laws.FileExtentLaws.{found_is, good_is, fault_is, slice_number}
 use Rattle.osm_mirror.proofs.run_laws.FilesRefusalLaws.{at_is}
+use Rattle.osm_mirror.proofs.run_laws.OutputFaultLaws.{cut_why, long_of, output_number, output_also}
 use Rattle.osm_mirror.proofs.run_laws.FilesJobLaws.{as_pairs, pairwise_length}
 
 -- ---- lists that belong together
@@ -91,15 +93,6 @@ to_mapped P f [] [] h = tt
 to_mapped P f [] (y ∷ ys) h = absurd h
 to_mapped P f (x ∷ xs) [] h = absurd h
 to_mapped P f (x ∷ xs) (y ∷ ys) h = (h.0, to_mapped P f xs ys h.1)
-
--- a job that is cut short is out of memory, or the output is at fault
-pub cut_why : (count : ℕ) (change : Change) (spelled : List ℕ) (fault : Fault) → CutShort count change spelled fault
-    → (fault ≡ memory_fault) ⊎ IsOutputFault count fault
-cut_why count change spelled fault c = elim c.why [
-  | inl memory ↦ inl memory
-  | inr (inl (is, fails)) ↦ inr (ap (λ f. f.input) is, inl (ap (λ f. f.reason) is))
-  | inr (inr (is, long)) ↦ inr (ap (λ f. f.input) is, inr (ap (λ f. f.reason) is))
-]
 
 -- ---- one input
 module _ {F R : Type 0} (known : F → Option (List ℕ)) (fails : F → Type 0) (can : R → InputRest → Type 0) where
@@ -289,12 +282,21 @@ module _ {F R : Type 0} (known : F → Option (List ℕ)) (fails : F → Type 0)
     why = why_moved extents count number spelled c.count change.failed fault many c.why;
   }
 
-  abbrev Why : List F → Fault → Type 0
-  Why files fault = AreRefused known fails IsFileRefusal files fault ⊎ IsOutputFault (length files) fault
+  abbrev Why : List F → Change → Type 0 → Fault → Type 0
+  Why files change Long fault = AreRefused known fails IsFileRefusal files fault ⊎ IsOutputFault (length files) change Long fault
 
-  of_cut : (files : List F) (fault : Fault) → (fault ≡ memory_fault) ⊎ IsOutputFault (length files) fault → Why files fault
-  of_cut files fault (inl memory) = inl (inl memory)
-  of_cut files fault (inr output) = inr output
+  of_cut : (files : List F) (change : Change) (Long : Type 0) (fault : Fault) → (fault ≡ memory_fault)
+      ⊎ IsOutputFault (length files) change Long fault → Why files change Long fault
+  of_cut files change Long fault (inl memory) = inl (inl memory)
+  of_cut files change Long fault (inr output) = inr output
+
+  -- what is cut short as too long is too long
+  long_if_cut : (selection : Selection) (format : Format) (span : List (List ℕ) → Option Span) (files : List F) (change : Change)
+      (fault : Fault) → IsCutIfGood known fails selection format span files change fault → fault ≡ too_long_fault (length files)
+      → IsLong known fails selection format span files
+  long_if_cut selection format span files change fault cut is all held good holds few =
+      let c = cut all held good holds few in
+      long_of (length files) _ c.count change.failed fault c.why (ap (λ f. f.reason) is)
 
   -- a refusal at another offset of the file
   refusal_moved : (Fails : Type 0) (k : Option (List ℕ)) (fault r : Fault) → r.reason ≡ fault.reason → (fault.reason ≡ Memory → ⊥)
@@ -304,7 +306,7 @@ module _ {F R : Type 0} (known : F → Option (List ℕ)) (fails : F → Type 0)
   refusal_moved Fails k fault r same other (inr none) = inr none
 
   of_file : (span : Span) (files : List F) (extents : List FileExtent) (fault : Fault) → length extents ≡ length files
-      → Refusal span 0 files fault → Why files (Moved extents (length files) fault)
+      → Refusal span 0 files fault → AreRefused known fails IsFileRefusal files (Moved extents (length files) fault)
   of_file span files extents fault many r =
       let index : fault.input ≡ r.k = r.input_is ∙ (let e : 0 + r.k ≡ r.k = omega arith in e) in
       let low : r.k < length extents = ⊎_elim (λ fine. fine)
@@ -314,13 +316,13 @@ module _ {F R : Type 0} (known : F → Option (List ℕ)) (fails : F → Type 0)
       let found : slice_get extents fault.input ≡ Some extent.0 = ap (slice_get extents) index ∙ extent.1 in
       let moved : Moved extents (length files) fault ≡ fault_in_extent fault (length files) (Some extent.0) =
       ap (fault_in_extent fault (length files)) found in
-      subst (Why files) (sym moved)
-      (⊎_elim (λ memory. inl (inl memory))
-      (λ at. inl (inr (inl (
+      subst (AreRefused known fails IsFileRefusal files) (sym moved)
+      (⊎_elim (λ memory. inl memory)
+      (λ at. inr (inl (
         r.file,
         ap (slice_get files) (at.input_is ∙ index) ∙ r.at,
         refusal_moved (fails r.file) (known r.file) fault _ at.reason_is at.other r.of,
-      ))))
+      )))
       (at_is fault.input _ fault.reason))
 
   good_sets : (span : Span) (files : List F) (all : List (List ℕ)) (held : List VersionSet) → Pairwise (IsGood known fails) files all
@@ -342,8 +344,11 @@ module _ {F R : Type 0} (known : F → Option (List ℕ)) (fails : F → Type 0)
       refused.cut [] (subst (λ (xs : List (Outside × InputRest)). Pairwise (GivesSlice sliced) xs []) (sym none) tt) in
       let moved = cut_moved extents (length files) (length given) change (spell format (selection_of selection (union_of []))) fault number
       cut in
+      let first = Moved extents (length files) fault in
+      let Long : Type 0 = IsLong known fails selection format (λ _. None) files in
       record {
-        why = of_cut files _ (cut_why (length files) change _ _ moved);
+        why = of_cut files change Long first (cut_why (length files) change _ first Long
+            (long_if_cut selection format (λ _. None) files change first (λ all held good holds few. moved)) moved);
         cut = λ all held good holds few. moved;
       }
   span_refused all_objects sliced (Some span) is files inputs extents many are selection format change fault (given, g, refused_as) =
@@ -354,18 +359,21 @@ module _ {F R : Type 0} (known : F → Option (List ℕ)) (fails : F → Type 0)
       given g) in
       let files_many : length files ≡ length inputs = pairwise_length (Input span) files inputs are in
       let number : length given ≡ length extents = sym (many ∙ inputs_many) in
+      let first = Moved extents (length files) fault in
+      let Long : Type 0 = IsLong known fails selection format (λ _. Some span) files in
+      let short : IsCutIfGood known fails selection format (λ _. Some span) files change first =
+      (λ all held good holds few. cut_moved extents (length files) (length given) change _ fault number
+      (refused.cut (map (slice span) held)
+      (slices_given span files inputs given held are (good_sets span files all held good holds) g))) in
       record {
         why = elim refused.why [
-          | inl cut ↦ of_cut files _ (cut_why (length files) change _ _
-              (cut_moved extents (length files) (length given) change _ fault number
-              cut))
-          | inr f ↦ of_file span files extents fault (many ∙ sym files_many)
-              (refused_at span 0 f.index files inputs given fault are g f.within f.refusal)
+          | inl cut ↦ of_cut files change Long first (cut_why (length files) change _ first Long
+              (long_if_cut selection format (λ _. Some span) files change first short)
+              (cut_moved extents (length files) (length given) change _ fault number cut))
+          | inr f ↦ inl (of_file span files extents fault (many ∙ sym files_many)
+              (refused_at span 0 f.index files inputs given fault are g f.within f.refusal))
         ];
-        cut = λ all held good holds few.
-            cut_moved extents (length files) (length given) change _ fault number
-            (refused.cut (map (slice span) held)
-            (slices_given span files inputs given held are (good_sets span files all held good holds) g));
+        cut = short;
       }
 
 -- ---- refusals before anything is written
@@ -412,24 +420,32 @@ module _ {F : Type 0} (known : F → Option (List ℕ)) (fails : F → Type 0) w
   }
 
   -- ---- the first fault in place of a fault
-  pub first_refuses : (selection : Selection) (format : Format) (span other : List (List ℕ)
+  pub first_refuses : (end : EndRule) (selection : Selection) (format : Format) (span other : List (List ℕ)
       → Option Span) (files : List F) (change : Change)
       (fault first : Fault)
       → ((all : List (List ℕ)) (held : List VersionSet) → HaveBytes known files all → Pairwise HoldsSorted all held → span all ≡ other all)
-      → (AreRefused known fails IsFileRefusal files fault → AreRefused known fails IsFaultOfFile files first)
+      → (AreRefused known fails IsFileRefusal files fault → AreRefused known fails (IsFaultByRule end) files first)
       → ((fault ≡ memory_fault) ⊎ (length files ≤ fault.input) → first ≡ fault)
       → RefusesSpan known fails IsFileRefusal selection format span files change fault
-      → RefusesSpan known fails IsFaultOfFile selection format other files change first
-  first_refuses selection format span other files change fault first same_span named same r = record {
+      → RefusesSpan known fails (IsFaultByRule end) selection format other files change first
+  first_refuses end selection format span other files change fault first same_span named same r = record {
     why = elim r.why [
       | inl refused ↦ inl (named refused)
-      | inr output ↦ (let is : first ≡ fault = same (inr (omega (arith, output.0))) in
-          inr (subst (IsOutputFault (length files)) (sym is) output))
+      | inr output ↦ (
+          let at = output_number (length files) change _ fault output in
+          let is : first ≡ fault = same (inr (omega (arith, at))) in
+          inr (subst (IsOutputFault (length files) change (IsLong known fails selection format other files)) (sym is)
+          (output_also (length files) change _ _ fault
+          (λ long all held good holds few.
+          subst (λ (s : Option Span). 2 ^ 62 ≤ length (spell format (selection_of selection (union_of (shard_slices s held)))))
+          (same_span all held (have_good files all good) holds) (long all held good holds few)) output)))
     ];
     cut = λ all held good holds few.
         let c = r.cut all held good holds few in
-        let is : first ≡ fault = ⊎_elim (λ memory. same (inl memory)) (λ output. same (inr (omega (arith, output.0))))
-        (cut_why (length files) change _ fault c) in
+        let Cut : Type 0 = (fault ≡ too_long_fault (length files)) in
+        let is : first ≡ fault = ⊎_elim (λ memory. same (inl memory))
+        (λ output. same (inr (let at = output_number (length files) change Cut fault output in omega (arith, at))))
+        (cut_why (length files) change _ fault Cut (λ e. e) c) in
         let whole = same_span all held (have_good files all good) holds in
         subst (λ (f : Fault). CutShort (length files) change
         (spell format (selection_of selection (union_of (shard_slices (other all) held)))) f) (sym is)

@@ -9,9 +9,10 @@ use Rattle.std.proofs.lemmas.List.Elements.{All-nil, All-cons, All-head, All-tai
 use Rattle.osm_files.specs.declared.end_rule.EndRule.{EndRule}
 use Rattle.osm_files.specs.declared.fault.Fault.{Fault}
 use Rattle.osm_files.specs.declared.sorted_run.SortedRun.{SortedRun}
-use Rattle.osm_files.specs.declared.reason.Reason.TheVariants.{ReadFault}
+use Rattle.osm_files.specs.declared.reason.Reason.TheVariants.{ReadFault, TooLong}
+use Rattle.osm_files.specs.EndRule.{lacks_its_end, rule_of_file}
 use Rattle.osm_files.specs.Fault.{memory_fault, IsOfFile}
-use Rattle.osm_files.specs.FileRuns.{IfWhole, IsAccepted, IsAcceptedRun, IsSortedRun, IsSortedIfAccepted, IsFirstUnsorted, IsRefusalOf}
+use Rattle.osm_files.specs.FileRuns.{IfWhole, IsAccepted, IsAcceptedRun, IsSortedRun, IsSortedIfAccepted, IsRefusalOf}
 use Rattle.osm_files.specs.Input.{InputRest}
 use Rattle.osm_files.specs.SortedRun.{IsSplitIntoRuns}
 use Rattle.osm_files.proofs.SplitLaws.{whole_file}
@@ -21,7 +22,8 @@ use Rattle.osm_mirror.specs.declared.run.files_job.JobFile.{JobFile}
 use Rattle.osm_mirror.specs.declared.run.files_job.JobFile.TheVariants.{File}
 use Rattle.osm_mirror.specs.declared.run.files_job.Order.{Order}
 use Rattle.osm_mirror.specs.declared.run.files_job.Order.TheVariants.{Sorted, Any}
-use Rattle.osm_mirror.specs.run.FilesRefusal.{IsSizeFault, IsFirstIn, IsFirstOf, IsFaultOfBytes, IsRefusedFile, AreRefused}
+use Rattle.osm_mirror.specs.run.FilesRefusal.{IsSizeFault, IsVerdict, verdict_by_end, IsFaultOfFile, IsRefusedFile, AreRefused}
+use Rattle.osm_mirror.specs.run.FilesRefusal.{IsRefusedByRule, AreRefusedByRule}
 use Rattle.osm_mirror.specs.run.FilesRefusal.{AreSettled}
 use Rattle.osm_mirror.specs.run.FilesJob.{IsWhole, IsReadWhole, IsAsRequired, IsWayOf, FitsBytes, FileFits, FilesFit}
 use Rattle.osm_mirror.proofs.run_laws.FilesJobLaws.{pairwise_length}
@@ -31,11 +33,13 @@ get_slice [] k x low is = absurd (omega (arith, low))
 get_slice (y ∷ xs) zero x low is = ap Some (sym is)
 get_slice (y ∷ xs) (suc k) x low is = get_slice xs k x (omega (arith, low)) is
 
--- ---- refusals
-long_bytes : (order : Order) (all : List ℕ) (fault : Fault) → 2 ^ 62 ≤ length all → IsFaultOfBytes order all fault
-long_bytes Sorted all fault long = inr long
-long_bytes Any all fault long = λ accepted. (let short = accepted.1.short in absurd (omega (arith, short, long)))
+-- One file more has a property.
+pub all_more : {X : Type 0} (P : X → Type 0) (xs : List X) (x : X) → All P xs → P x → All P (xs ++ x ∷ [])
+all_more P [] x all one = All-cons P x [] one (All-nil P)
+all_more P (y ∷ xs) x all one =
+    All-cons P y (xs ++ x ∷ []) (All-head P y xs all) (all_more P xs x (All-tail P y xs all) one)
 
+-- ---- refusals
 module _ {F R : Type 0} (fails : F → Type 0) (bytes : F → Option (List ℕ)) (can : R → InputRest → Type 0) (order : Order) where
   -- The refusal of one file is one of all files.
   pub among_files : (files : List (JobFile F R)) (input : ℕ) (file : JobFile F R) (fault : Fault) → input < length files
@@ -45,29 +49,53 @@ module _ {F R : Type 0} (fails : F → Type 0) (bytes : F → Option (List ℕ))
   among_files files input file fault low is (inr (at, found)) =
       inr (file, subst (λ (k : ℕ). slice_get files k ≡ Some file) (sym at) (get_slice files input file low is), found)
 
-  too_long : (known : Option (List ℕ)) (fault : Fault) → IfSome known (λ all. 2 ^ 62 ≤ length all)
-      → IfSome known (λ all. IsFaultOfBytes order all fault)
-  too_long None fault long = tt
-  too_long (Some all) fault long = long_bytes order all fault long
+  -- The same for files that have to end as their rules say.
+  pub among_by_rule : (files : List (JobFile F R)) (input : ℕ) (file : JobFile F R) (fault : Fault) → input < length files
+      → file ≡ get_or files input file → IsRefusedByRule fails bytes can order input file fault
+      → AreRefusedByRule fails bytes can order files fault
+  among_by_rule files input file fault low is (inl memory) = inl memory
+  among_by_rule files input file fault low is (inr (at, found)) =
+      inr (file, subst (λ (k : ℕ). slice_get files k ≡ Some file) (sym at) (get_slice files input file low is), found)
 
-  -- A file whose size isn't known, or that is too long, is refused.
+at_start : (known : Option (List ℕ)) (fault : Fault) → fault.place ≡ 0 → IfSome known (λ all. fault.place ≤ length all)
+at_start None fault begins = tt
+at_start (Some all) fault begins = omega (arith, begins)
+
+too_long : (known : Option (List ℕ)) (order : Order) (end : EndRule) (fault : Fault)
+    → IfSome known (λ all. (2 ^ 62 ≤ length all) × (fault.place ≡ 2 ^ 62) × (fault.reason ≡ TooLong))
+    → IfSome known (λ all. IsVerdict (verdict_by_end (lacks_its_end (rule_of_file end) all) order all) all fault)
+too_long None order end fault long = tt
+too_long (Some all) order end fault long = inr long
+
+-- A file whose size isn't known, or that is too long, is refused.
+pub size_fault : (Fails : Type 0) (known : Option (List ℕ)) (order : Order) (end : EndRule) (fault : Fault)
+    → IsSizeFault Fails known fault → IsFaultOfFile Fails known order end fault
+size_fault Fails known order end fault (inl (fails, read, begins)) = inl (fails, read, at_start known fault begins)
+size_fault Fails known order end fault (inr long) = inr (too_long known order end fault long)
+
+-- A file can't be read at its start.
+pub start_fault : (Fails : Type 0) (known : Option (List ℕ)) (order : Order) (end : EndRule) (fault : Fault) → Fails
+    → fault.reason ≡ ReadFault → fault.place ≡ 0 → IsFaultOfFile Fails known order end fault
+start_fault Fails known order end fault fails read begins = inl (fails, read, at_start known fault begins)
+
+not_accepted : (known : Option (List ℕ)) (fault : Fault)
+    → IfSome known (λ all. (2 ^ 62 ≤ length all) × (fault.place ≡ 2 ^ 62) × (fault.reason ≡ TooLong))
+    → IfSome known (λ all. IsAccepted all → ⊥)
+not_accepted None fault long = tt
+not_accepted (Some all) fault long = λ accepted. (let short = accepted.1.short in let many = long.0 in absurd (omega (arith, short, many)))
+
+module _ {F R : Type 0} (fails : F → Type 0) (bytes : F → Option (List ℕ)) (can : R → InputRest → Type 0) where
+  -- The same for a file of any order.
   pub size_refused : (f : Bor F) (end : EndRule) (input : ℕ) (fault : Fault) → fault.input ≡ input
-      → IsSizeFault (fails f.now) (bytes f.now) fault → IsRefusedFile fails bytes can order input (File f end) fault
-  size_refused f end input fault at (inl failed) = inr (at, inl failed)
-  size_refused f end input fault at (inr long) = inr (at, inr (too_long (bytes f.now) fault long))
-
--- The first version out of order of one of the files.
-pub first_at : {F R : Type 0} (bytes : F → Option (List ℕ)) (files : List (JobFile F R)) (input : ℕ) (file : JobFile F R)
-    (first : Option ℕ) → slice_get files input ≡ Some file
-    → IfSome first (λ offset. IsFirstOf bytes files (record { file = input; offset = offset })) → IfSome first (IsFirstIn bytes file)
-first_at bytes files input file None at known = tt
-first_at bytes files input file (Some offset) at known = known file at
+      → IsSizeFault (fails f.now) (bytes f.now) fault → IsRefusedFile fails bytes can Any input (File f end) fault
+  size_refused f end input fault at (inl (failed, read, begins)) = inr (at, inl (failed, read))
+  size_refused f end input fault at (inr long) = inr (at, inr (not_accepted (bytes f.now) fault long))
 
 -- the refusal of a file in which no runs are found
 module _ (Fails : Type 0) (fault : Fault) where
   known_runs : (known : Option (List ℕ)) (size : ℕ) → IfSome known (λ all. length all ≡ size)
       → IfWhole known size (λ all. IsRefusalOf Fails all fault)
-      → (fault ≡ memory_fault) ⊎ ((Fails × (fault.reason ≡ ReadFault)) ⊎ IfSome known (λ all. IsFaultOfBytes Any all fault))
+      → (fault ≡ memory_fault) ⊎ ((Fails × (fault.reason ≡ ReadFault)) ⊎ IfSome known (λ all. IsAccepted all → ⊥))
   known_runs None size long refused = inr (inr tt)
   known_runs (Some all) size long refused =
       ⊎_elim (λ failure. ⊎_elim (λ memory. inl memory) (λ failed. inr (inl failed)) failure) (λ never. inr (inr never)) (refused long)
@@ -135,16 +163,13 @@ both_all P Q (run ∷ runs) follows has =
     (both_all P Q runs (All-tail (λ run. P run → Q run) run runs follows) (All-tail P run runs has))
 
 -- The runs that are found in an accepted file are sorted files.
-pub runs_sorted : (known : Option (List ℕ)) (size : ℕ) (first : Option ℕ) (runs : List SortedRun) → IfSome known (λ all. length all ≡ size)
-    → IfSome first (λ offset. IfSome known (λ all. IsAccepted all → IsFirstUnsorted all offset))
-    → IfWhole known size (λ all. IfSome first (IsFirstUnsorted all) → All (IsSortedIfAccepted all) runs)
+pub runs_sorted : (known : Option (List ℕ)) (size : ℕ) (runs : List SortedRun) → IfSome known (λ all. length all ≡ size)
+    → IfWhole known size (λ all. All (IsSortedIfAccepted all) runs)
     → IfWhole known size (λ all. IsAccepted all → All (IsAcceptedRun all) runs)
     → IfSome known (λ all. IsAccepted all → All (IsSortedRun all) runs)
-runs_sorted None size first runs long right sorted files = tt
-runs_sorted (Some all) size None runs long right sorted files = λ accepted.
-    both_all (IsAcceptedRun all) (IsSortedRun all) runs (sorted long tt) (files long accepted)
-runs_sorted (Some all) size (Some offset) runs long right sorted files = λ accepted.
-    both_all (IsAcceptedRun all) (IsSortedRun all) runs (sorted long (right accepted)) (files long accepted)
+runs_sorted None size runs long sorted files = tt
+runs_sorted (Some all) size runs long sorted files = λ accepted.
+    both_all (IsAcceptedRun all) (IsSortedRun all) runs (sorted long) (files long accepted)
 
 -- ---- ways that are changed in place
 -- a list of which all members were changed

@@ -1,15 +1,13 @@
 -- A job over open files and streams: an own rule of this project.
 use Rattle.std.specs.Prelude.{◌≡◌, ◌⊎◌, ℕ, ◌+◌, ◌-◌, ◌<◌, ◌^◌, Bool, true, false, List, [], ◌∷◌, ◌++◌, length, Option}
 use Rattle.std.specs.Prelude.{Some, None, IfSome, slice_get}
+use Rattle.std.specs.Borrow.{Bor}
 use Rattle.std.specs.List as list
 use Rattle.osm_model.specs.VersionSet.{VersionSet}
 use Rattle.osm_model.specs.Sets.{size}
 use Rattle.osm_model.specs.Pairwise.{Pairwise}
 use Rattle.osm_files.specs.declared.fault.Fault.{Fault}
-use Rattle.osm_files.specs.declared.output.Output.{Ghosts}
 use Rattle.osm_files.specs.declared.sorted_run.SortedRun.{SortedRun}
-use Rattle.osm_files.specs.Change.{change_of}
-use Rattle.osm_files.specs.Clear.{IsCleared}
 use Rattle.osm_files.specs.declared.end_rule.EndRule.{EndRule}
 use Rattle.osm_files.specs.declared.end_rule.EndRule.TheVariants as rule
 use Rattle.osm_files.specs.EndRule.{by_rule, lacks_its_end, rule_of_file}
@@ -70,13 +68,10 @@ pub record IsFilesJob {F R : Type 0} (bytes : F → Option (List ℕ)) (can : R 
   pub written_count : counts.written ≡ capped_count (size (selection_of job.selection (union_of held)))
   pub clashes_count : counts.clashes ≡ capped_count (clash_count (union_of held))
 
--- A job wrote to an output that was `before`, and is `after`: with this change; or the output, which can be cleared,
--- was cleared, and the job wrote then.
-abbrev pub WroteTo : {O : Type 0} → Ghosts O → Bool → O → O → (Change → Type 0) → Type 0
-WroteTo {O = O} output can_clear before after Writes =
-    Writes (change_of output before after)
-    ⊎ ((can_clear ≡ true) × ((cleared : O) × IsCleared (output.holds before) (output.holds cleared)
-    × Writes (change_of output cleared after)))
+-- an open file of a job and the rule for its end, or none for a stream
+abbrev pub opened_of : {F R : Type 0} → JobFile F R → Option (Bor F × EndRule)
+opened_of (File f end) = Some (f, end)
+opened_of (Stream r end) = None
 
 -- ---- the ways in which files are read
 -- a file is read as one input, which is the whole file

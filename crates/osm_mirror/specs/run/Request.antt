@@ -29,6 +29,13 @@ order_for Apply sorted = if sorted then Sorted else Any
 order_for Sort sorted = if sorted then Sorted else Any
 order_for TimeFilter sorted = if sorted then Sorted else Any
 
+-- May the largest file be taken as sorted? The map that changes are applied to, and that is filtered by time, often is.
+abbrev pub tries_largest : Command → Bool
+tries_largest Merge = false
+tries_largest Apply = true
+tries_largest Sort = false
+tries_largest TimeFilter = true
+
 -- the moment that a reading of a time gives
 abbrev pub moment_or_fault : Bor (List ℕ) → Result ℕ OplReason → Result ℕ RequestFault
 moment_or_fault time (Ok moment) = Ok moment
@@ -70,5 +77,6 @@ abbrev pub requested_job : FileRequest → Result FilesJob RequestFault
 requested_job asked = and_then (selection_for asked.command asked) (λ selection. Ok (record {
   selection = selection;
   order = order_for asked.command asked.sorted;
+  tries_largest = tries_largest asked.command;
   format = asked.format;
 }))

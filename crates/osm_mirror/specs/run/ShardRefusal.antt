@@ -25,7 +25,7 @@ use Rattle.osm_mirror.specs.declared.run.files_job.Order.TheVariants.{Sorted}
 use Rattle.osm_mirror.specs.declared.run.shard_extent.FileExtent.{FileExtent}
 use Rattle.osm_mirror.specs.declared.run.shard_job.ShardJob.{ShardJob}
 use Rattle.osm_mirror.specs.run.Bounds.{opl_size, shard_span}
-use Rattle.osm_mirror.specs.run.FilesRefusal.{IsFaultOfBytes, IsFaultByEnd, IsOutputFault}
+use Rattle.osm_mirror.specs.run.FilesRefusal.{IsFaultOfFile, IsOutputFault}
 use Rattle.osm_mirror.specs.run.Probes.{HaveBytes}
 use Rattle.osm_mirror.specs.run.Job.{union_of}
 use Rattle.osm_mirror.specs.run.ShardJob.{shard_slices}
@@ -36,23 +36,9 @@ abbrev pub IsFileRefusal : Type 0 → Option (List ℕ) → Fault → Type 0
 IsFileRefusal Fails known fault = IsReadFailure Fails fault
     ⊎ IfSome known (λ all. (held : VersionSet) → HoldsSorted all held → ⊥)
 
--- The fault is one of a file: a read failed; or it is the first fault of the file's bytes as a sorted file, if they are
--- known.
-abbrev pub IsFaultOfFile : Type 0 → Option (List ℕ) → Fault → Type 0
-IsFaultOfFile Fails known fault = (Fails × (fault.reason ≡ ReadFault))
-    ⊎ IfSome known (λ all. IsFaultOfBytes Sorted all fault)
-
--- The same of a file that has to end as the rule says.
+-- the first fault of a sorted file that has to end as the rule says
 abbrev pub IsFaultByRule : EndRule → Type 0 → Option (List ℕ) → Fault → Type 0
-IsFaultByRule end Fails known fault = (Fails × (fault.reason ≡ ReadFault))
-    ⊎ IfSome known (λ all. IsFaultByEnd (lacks_its_end (rule_of_file end) all) Sorted all fault)
-
--- The first fault of a file in place of a fault of it: memory ran out, it is a fault of the file, or the whole file is
--- sorted as far as its bytes are known, and the fault is the same.
-abbrev pub IsFirstFault : Type 0 → Option (List ℕ) → Fault → Fault → Type 0
-IsFirstFault Fails known fault first = (first ≡ memory_fault)
-    ⊎ ((first.input ≡ fault.input) × IsFaultOfFile Fails known first)
-    ⊎ ((first ≡ fault) × IfSome known (λ all. (held : VersionSet) × HoldsSorted all held))
+IsFaultByRule end Fails known fault = IsFaultOfFile Fails known Sorted end fault
 
 -- the fault of an input as the fault of its file, if these are the extents that were read of the files
 abbrev pub fault_in_extent : Fault → ℕ → Option FileExtent → Fault
@@ -86,10 +72,18 @@ module _ {F : Type 0} (known : F → Option (List ℕ)) (fails : F → Type 0) w
       → CutShort (length files) change
       (spell format (selection_of selection (union_of (shard_slices (span all) held)))) fault
 
-  -- Why a job for a span of these files was refused: memory ran out, or one of the files or the output is at fault.
+  -- if no file is refused, as above, the one spelling of what the span has of the files has 2^62 bytes or more
+  abbrev pub IsLong : Selection → Format → (List (List ℕ) → Option Span) → List F → Type 0
+  IsLong selection format span files = (all : List (List ℕ)) (held : List VersionSet)
+      → Pairwise IsGood files all → Pairwise HoldsSorted all held → sum_by opl_size all < 2 ^ 62
+      → 2 ^ 62 ≤ length (spell format (selection_of selection (union_of (shard_slices (span all) held))))
+
+  -- Why a job for a span of these files was refused: memory ran out, one of the files is at fault, the output has
+  -- failed, or what was to be written is too long.
   pub record RefusesSpan (IsOf : Type 0 → Option (List ℕ) → Fault → Type 0) (selection : Selection) (format : Format)
       (span : List (List ℕ) → Option Span) (files : List F) (change : Change) (fault : Fault) : Type 0 where
-    pub why : AreRefused IsOf files fault ⊎ IsOutputFault (length files) fault
+    pub why : AreRefused IsOf files fault
+        ⊎ IsOutputFault (length files) change (IsLong selection format span files) fault
     pub cut : IsCutIfGood selection format span files change fault
 
   -- each of these files ends as the rule says, as far as its bytes are known
@@ -97,10 +91,13 @@ module _ {F : Type 0} (known : F → Option (List ℕ)) (fails : F → Type 0) w
   EndByRule end files =
       list.All (λ file. IfSome (known file) (λ all. lacks_its_end (rule_of_file end) all ≡ false)) files
 
-  -- Why a job for a shard of these files was refused: memory ran out, or one of the files or the output is at fault. If
-  -- all files are good and end as the rule says, a front of the file that was to be written was appended.
+  -- Why a job for a shard of these files was refused: memory ran out, one of the files is at fault, the output has
+  -- failed, or what was to be written is too long. If all files are good and end as the rule says, a front of the file
+  -- that was to be written was appended.
   pub record RefusesShardJob {O : Type 0} (output : Ghosts O) (job : ShardJob) (files : List F) (before after : O)
       (fault : Fault) : Type 0 where
-    pub why : AreRefused (IsFaultByRule job.end) files fault ⊎ IsOutputFault (length files) fault
+    pub why : AreRefused (IsFaultByRule job.end) files fault
+        ⊎ IsOutputFault (length files) (change_of output before after)
+        (IsLong job.selection job.format (shard_span job.shard.number job.shard.count) files) fault
     pub cut : EndByRule job.end files → IsCutIfGood job.selection job.format
         (shard_span job.shard.number job.shard.count) files (change_of output before after) fault

@@ -1,10 +1,10 @@
 //! The lines of plans.
 ghost use Rattle.std.specs.Prelude.{◌≡◌, [], ◌∷◌, map, IfOk, IfErr};
-ghost use Rattle.std.specs.Str.{all_ascii_digits};
 ghost use Rattle.osm_files.specs.Format.{format_name};
 ghost use Rattle.osm_mirror.specs.fleet.PlanLine.{WordsSay, LineSays, IsNumber, IsName};
 ghost use Rattle.osm_mirror.specs.fleet.PlanFault.{IsNone, IsNoneOrMemory};
 
+use crate::digits::are_digits;
 use crate::fleet::event::Step;
 use crate::fleet::keep::Keep;
 use crate::fleet::plan_fault::PlanReason;
@@ -139,13 +139,6 @@ fn read_number(word: &str) -> Result<usize, PlanReason>
         Ok(number) => Ok(number),
         Err(_) => Err(PlanReason::BadWord),
     }
-}
-
-/// Whether all characters of a word are decimal digits.
-fn are_digits(word: &str) -> bool
-    ensures { result ≡ all_ascii_digits word.now }
-{
-    word.bytes().all(|byte| byte.is_ascii_digit())
 }
 
 /// The format with the name `word`.

@@ -1,18 +1,19 @@
 //! The ways in which a job reads its files: each as one input, or as several sorted runs.
-ghost use Rattle.std.specs.Prelude.{◌≡◌, ◌<◌, ◌^◌, false, true, Some, length, set, IfOk, IfErr, OnOk, IfSome};
+ghost use Rattle.std.specs.Prelude.{◌≡◌, ◌↔◌, ◌<◌, ◌^◌, IsTrue, true, false, None, length, set};
+ghost use Rattle.std.specs.Prelude.{IfOk, IfErr, OnOk, IfSome};
 ghost use Rattle.osm_files.specs.Fault.{memory_fault};
-ghost use Rattle.osm_mirror.specs.declared.run.file_way.FilesToSplit.TheVariants as to_split;
-ghost use Rattle.osm_mirror.specs.run.FilesRefusal.{IsSizeFault, IsFirstIn, IsFirstOf, IsFirstKnown, IsRefusedFile};
-ghost use Rattle.osm_mirror.specs.run.FilesRefusal.{AreRefused, AreSettled};
+ghost use Rattle.osm_mirror.specs.run.FilesRefusal.{IsSizeFault, IsRefusedFile, AreRefused};
+ghost use Rattle.osm_mirror.specs.run.FilesRefusal.{AreRefusedByRule, IsRefusedByRule};
+ghost use Rattle.osm_mirror.specs.run.FilesRefusal.{AreSettled, MayBeSplit, LeavesOpen};
 ghost use Rattle.osm_mirror.specs.run.FilesJob.{IsReadWhole, FileFits, FilesFit};
 
-use crate::run::files_job::{JobFile, Order};
+use crate::run::files_job::{FilesJob, JobFile, Order};
 use crate::run::probe::descends;
 use osm_files::{Fault, Input, LENGTH_LIMIT, ReadAt, Reason, SortedRun, find_runs};
 use std::alloc::Global;
 
-/// The greatest number of inputs that are read at the same time, unless there are more files. Each has a buffer.
-const MOST_INPUTS: usize = 128;
+/// The greatest number of runs besides the first one of each file. Each run has a buffer.
+const MOST_FURTHER_RUNS: usize = 128;
 
 /// How a job reads a file: as one input, or as several sorted runs of it.
 #[derive(Drop)]
@@ -42,67 +43,26 @@ impl FileWay {
             may_be_split,
         })
     }
-}
 
-/// The first version of a file that is out of order.
-#[derive(Clone, Copy, Debug, PartialEq, Eq)]
-pub(crate) struct FirstUnsorted {
-    /// The number of the file.
-    pub(crate) file: usize,
-    /// The version's offset in the file.
-    pub(crate) offset: u64,
-}
-
-/// The files that are to be split into sorted runs.
-#[derive(Clone, Copy, Debug, PartialEq, Eq)]
-pub(crate) enum FilesToSplit {
-    /// The file that has this version.
-    OfFirst(FirstUnsorted),
-    /// The files that aren't sorted by what a look at a few of their versions shows.
-    Descending,
-    /// All files.
-    All,
-}
-
-impl FilesToSplit {
-    /// Whether the file number `file` is one of these.
-    fn has<'f, F: ReadAt, R>(self, alloc: Global, files: &[JobFile<'f, F, R>], file: usize) -> bool
-        ensures { self ≡ to_split.All → result ≡ true }
-    {
-        match self {
-            FilesToSplit::OfFirst(first) => first.file == file,
-            FilesToSplit::Descending => match files.get(file) {
-                Some(JobFile::File(opened, _)) => descends(alloc, *opened),
-                _ => false,
-            },
-            FilesToSplit::All => true,
-        }
-    }
-
-    /// The offset of the first version of the file number `file` that is out of order, if it is known.
-    fn offset_in(self, file: usize) -> Option<u64>
-        ensures { IfSome result (λ offset. self ≡ to_split.OfFirst (record { file = file; offset = offset })) }
-    {
-        match self {
-            FilesToSplit::OfFirst(first) if first.file == file => Some(first.offset),
-            _ => None,
-        }
+    /// The number of the file's inputs after the first one.
+    fn further_runs(&self) -> usize {
+        self.runs.len().saturating_sub(1)
     }
 }
 
-/// The ways in which the first turn reads the files, whose versions must have the order `order`. Each file is read as
-/// one sorted file. A stream is read in the order `order`.
+/// The ways to begin with, for files whose versions must have the order `order`. Each file is read as one sorted file,
+/// which may be split if the versions may have any order. A stream is read in the order `order`.
 ///
 /// # Errors
 ///
 /// `TooLong` or `ReadFault` if a file is too long or has no known size; or `Memory`.
-fn first_ways<'f, F: ReadAt, R: Input>(
+pub(crate) fn first_ways<'f, F: ReadAt, R: Input>(
     alloc: Global,
     order: Order,
     files: &[JobFile<'f, F, R>],
 ) -> Result<Vec<FileWay>, Fault>
     ensures fit { IfOk result (λ ways. FilesFit F.bytes order files.now ways.items) }
-    ensures refused { IfErr result (AreRefused F.fails F.bytes R.can_give order files.now) }
+    ensures refused { IfErr result (AreRefusedByRule F.fails F.bytes R.can_give order files.now) }
 {
     let mut ways = Vec::new(alloc);
     'files: for (input, file) in files.iter().enumerate() {
@@ -111,7 +71,7 @@ fn first_ways<'f, F: ReadAt, R: Input>(
     Ok(ways)
 }
 
-/// The way in which the first turn reads `file`, whose number is `input`.
+/// The way to begin with of `file`, whose number is `input`.
 fn first_way<'f, F: ReadAt, R: Input>(
     alloc: Global,
     order: Order,
@@ -119,7 +79,7 @@ fn first_way<'f, F: ReadAt, R: Input>(
     input: usize,
 ) -> Result<FileWay, Fault>
     ensures fits { IfOk result (FileFits F.bytes order file.now) }
-    ensures refused { IfErr result (IsRefusedFile F.fails F.bytes R.can_give order input file.now) }
+    ensures refused { IfErr result (IsRefusedByRule F.fails F.bytes R.can_give order input file.now) }
 {
     match file {
         JobFile::File(file, _) => {
@@ -131,7 +91,7 @@ fn first_way<'f, F: ReadAt, R: Input>(
 }
 
 /// The size of `file`, whose number is `input`, if the file isn't too long.
-fn short_size<F: ReadAt>(file: &F, input: usize) -> Result<u64, Fault>
+pub(crate) fn short_size<F: ReadAt>(file: &F, input: usize) -> Result<u64, Fault>
     ensures size { IfOk result (λ size. IfSome (F.bytes file.now) (λ all. length all ≡ size)) }
     ensures short { IfOk result (λ size. size < 2 ^ 62) }
     ensures input { IfErr result (λ fault. fault.input ≡ input) }
@@ -144,167 +104,116 @@ fn short_size<F: ReadAt>(file: &F, input: usize) -> Result<u64, Fault>
     }
 }
 
-/// The ways in which the first turn reads the files. If `may_look` is set, files that aren't sorted by what a look at
-/// them shows are split.
-///
-/// # Errors
-///
-/// The fault of a file that can't be read or is too long; or `Memory`.
-pub(crate) fn ways_at_first<'f, F: ReadAt, R: Input>(
+/// The number of the file that is taken as sorted without a look at all of it, if the job may do that: the largest one,
+/// unless a few of its versions show that it isn't sorted.
+pub(crate) fn file_to_try<'f, F: ReadAt, R>(
     alloc: Global,
-    order: Order,
+    job: FilesJob,
     files: &[JobFile<'f, F, R>],
-    may_look: bool,
-) -> Result<Vec<FileWay>, Fault>
-    requires any { may_look ≡ true → order ≡ Order.Any }
-    ensures fit { IfOk result (λ ways. FilesFit F.bytes order files.now ways.items) }
-    ensures refused { IfErr result (AreRefused F.fails F.bytes R.can_give order files.now) }
-{
-    let mut ways = first_ways(alloc, order, files)?;
-    if !may_look {
-        return Ok(ways);
+    ways: &[FileWay],
+) -> Option<usize> {
+    if !job.tries_largest {
+        return None;
     }
-    split_files(alloc, files, ways.as_mut_slice(), FilesToSplit::Descending)?;
-    Ok(ways)
+    let mut largest: Option<(usize, u64)> = None;
+    for (file, way) in ways.iter().enumerate() {
+        if largest.is_none_or(|(_, size)| size < way.size) {
+            largest = Some((file, way.size));
+        }
+    }
+    let (number, _) = largest?;
+    match files.get(number) {
+        Some(JobFile::File(file, _)) if !descends(alloc, *file) => Some(number),
+        _ => None,
+    }
 }
 
-/// The ways in which the files are read after the turn `turn`, which found `first` out of order. The file of `first` is
-/// split, and after the second turn each file.
+/// The ways after each of `files` that may be split was split into sorted runs, but not the file number `tried`. A file
+/// that can't be split, or that has too many runs, is read to its end before anything is written.
 ///
 /// # Errors
 ///
 /// The fault of a file that can't be read; or `Memory`.
-pub(crate) fn ways_after<'f, F: ReadAt, R: Input>(
+pub(crate) fn split_ways<'f, F: ReadAt, R: Input>(
     alloc: Global,
     files: &[JobFile<'f, F, R>],
     mut ways: Vec<FileWay>,
-    first: FirstUnsorted,
-    turn: usize,
-) -> Result<Vec<FileWay>, Fault>
-    requires fit { FilesFit F.bytes Order.Any files.now ways.items }
-    requires first { IsFirstOf F.bytes files.now first }
-    ensures fit { IfOk result (λ ways. FilesFit F.bytes Order.Any files.now ways.items) }
-    ensures refused { IfErr result (AreRefused F.fails F.bytes R.can_give Order.Any files.now) }
-{
-    split_files(
-        alloc,
-        files,
-        ways.as_mut_slice(),
-        FilesToSplit::OfFirst(first),
-    )?;
-    if turn == 1 {
-        return Ok(ways);
-    }
-    split_all(alloc, files, ways)
-}
-
-/// The ways in which the last turn reads the files: none may be split.
-///
-/// # Errors
-///
-/// The fault of a file that can't be read; or `Memory`.
-pub(crate) fn last_ways<'f, F: ReadAt, R: Input>(
-    alloc: Global,
-    order: Order,
-    files: &[JobFile<'f, F, R>],
-    ways: Vec<FileWay>,
-) -> Result<Vec<FileWay>, Fault>
-    requires fit { FilesFit F.bytes order files.now ways.items }
-    ensures fit { IfOk result (λ ways. FilesFit F.bytes order files.now ways.items) }
-    ensures settled { IfOk result (λ ways. AreSettled ways.items) }
-    ensures refused { IfErr result (AreRefused F.fails F.bytes R.can_give order files.now) }
-{
-    if order.is_any() {
-        split_all(alloc, files, ways)
-    } else {
-        Ok(ways)
-    }
-}
-
-/// Splits into sorted runs all files that may be split.
-fn split_all<'f, F: ReadAt, R: Input>(
-    alloc: Global,
-    files: &[JobFile<'f, F, R>],
-    mut ways: Vec<FileWay>,
+    tried: Option<usize>,
 ) -> Result<Vec<FileWay>, Fault>
     requires fit { FilesFit F.bytes Order.Any files.now ways.items }
     ensures fit { IfOk result (λ ways. FilesFit F.bytes Order.Any files.now ways.items) }
-    ensures settled { IfOk result (λ ways. AreSettled ways.items) }
+    ensures settled { IfOk result (λ ways. tried ≡ None → AreSettled ways.items) }
     ensures refused { IfErr result (AreRefused F.fails F.bytes R.can_give Order.Any files.now) }
 {
-    split_files(alloc, files, ways.as_mut_slice(), FilesToSplit::All)?;
+    split_files(alloc, files, ways.as_mut_slice(), tried)?;
     Ok(ways)
 }
 
-/// Splits into sorted runs those of `files` that may be split and are among `which`. A file that can't be split, or
-/// that has too many runs, is read to its end before anything is written.
-///
-/// # Errors
-///
-/// The fault of a file that can't be read; or `Memory`.
+/// Splits the files as [`split_ways`] does.
 fn split_files<'f, F: ReadAt, R: Input>(
     alloc: Global,
     files: &[JobFile<'f, F, R>],
     ways: &mut [FileWay],
-    which: FilesToSplit,
+    tried: Option<usize>,
 ) -> Result<(), Fault>
     requires fit { FilesFit F.bytes Order.Any files.now ways.old }
-    requires first { IsFirstKnown F.bytes files.now which }
     ensures fit { FilesFit F.bytes Order.Any files.now ways.new }
-    ensures settled { OnOk result (which ≡ to_split.All → AreSettled ways.new) }
+    ensures settled { OnOk result (tried ≡ None → AreSettled ways.new) }
     ensures refused { IfErr result (AreRefused F.fails F.bytes R.can_give Order.Any files.now) }
 {
+    let mut left = MOST_FURTHER_RUNS.saturating_sub(further_runs(ways));
     'files: for file in 0..ways.len() {
-        if ways[file].may_be_split && which.has(alloc, files, file) {
-            split_way(alloc, files, ways, file, which.offset_in(file))?;
+        if ways[file].may_be_split && is_to_split(tried, file) {
+            left = left.saturating_sub(split_way(alloc, files, ways, file, left)?);
         }
     }
     Ok(())
 }
 
-/// Splits the file number `file` into sorted runs. `first` is the offset of its first version that is out of order, if
-/// it is known.
+/// Whether the file number `file` isn't `tried`.
+fn is_to_split(tried: Option<usize>, file: usize) -> bool
+    ensures { tried ≡ None → result ≡ true }
+{
+    tried != Some(file)
+}
+
+/// The number of inputs after the first one of each file.
+fn further_runs(ways: &[FileWay]) -> usize {
+    let mut count = 0_usize;
+    for way in ways {
+        count = count.saturating_add(way.further_runs());
+    }
+    count
+}
+
+/// Splits the file number `file` into sorted runs, of which at most `most` follow the first one. Returns their number.
 fn split_way<'f, F: ReadAt, R: Input>(
     alloc: Global,
     files: &[JobFile<'f, F, R>],
     ways: &mut [FileWay],
     file: usize,
-    first: Option<u64>,
-) -> Result<(), Fault>
+    most: usize,
+) -> Result<usize, Fault>
     requires fit { FilesFit F.bytes Order.Any files.now ways.old }
     requires file { file < length ways.old }
-    requires first { IfSome first (λ offset. IsFirstOf F.bytes files.now (record { file = file; offset = offset })) }
     ensures fit { FilesFit F.bytes Order.Any files.now ways.new }
     ensures settled { OnOk result ((way : FileWay) × (way.may_be_split ≡ false)
         × (ways.new ≡ set ways.old file way)) }
     ensures refused { IfErr result (AreRefused F.fails F.bytes R.can_give Order.Any files.now) }
 {
-    let most = MOST_INPUTS.saturating_sub(inputs_of_others(ways, file));
-    ways[file] = split_file(alloc, &files[file], file, first, most)?;
-    Ok(())
+    let way = split_file(alloc, &files[file], file, most.saturating_add(1))?;
+    let further = way.further_runs();
+    ways[file] = way;
+    Ok(further)
 }
 
-/// The number of inputs of all files but the one with the number `file`.
-fn inputs_of_others(ways: &[FileWay], file: usize) -> usize {
-    let mut count = 0_usize;
-    for (other, way) in ways.iter().enumerate() {
-        if other != file {
-            count = count.saturating_add(way.runs.len());
-        }
-    }
-    count
-}
-
-/// `file`, whose number is `input`, as at most `most` sorted runs, or as one input of any order. `first` is the offset
-/// of its first version that is out of order, if it is known.
+/// `file`, whose number is `input`, as at most `most` sorted runs, or as one input of any order.
 fn split_file<'f, F: ReadAt, R: Input>(
     alloc: Global,
     file: &JobFile<'f, F, R>,
     input: usize,
-    first: Option<u64>,
     most: usize,
 ) -> Result<FileWay, Fault>
-    requires first { IfSome first (IsFirstIn F.bytes file.now) }
     ensures fits { IfOk result (FileFits F.bytes Order.Any file.now) }
     ensures settled { IfOk result (λ way. way.may_be_split ≡ false) }
     ensures refused { IfErr result (IsRefusedFile F.fails F.bytes R.can_give Order.Any input file.now) }
@@ -313,7 +222,7 @@ fn split_file<'f, F: ReadAt, R: Input>(
         return FileWay::whole(alloc, Order::Any, 0, false);
     };
     let size = short_size(*file, input)?;
-    match find_runs(alloc, *file, input, size, first, most)? {
+    match find_runs(alloc, *file, input, size, most)? {
         Some(runs) => Ok(FileWay {
             order: Order::Sorted,
             runs,
@@ -321,5 +230,27 @@ fn split_file<'f, F: ReadAt, R: Input>(
             may_be_split: false,
         }),
         None => FileWay::whole(alloc, Order::Any, size, false),
+    }
+}
+
+/// Whether a turn that is refused with `fault` doesn't decide the job: a file that may be split isn't sorted, or the
+/// output would be too long. The front of a file may select more than the file.
+pub(crate) fn leaves_open(ways: &[FileWay], fault: Fault) -> bool
+    ensures { IsTrue result ↔ LeavesOpen ways.now fault }
+{
+    match fault.reason {
+        Reason::Unsorted => may_be_split(ways, fault.input),
+        Reason::TooLong => fault.input == ways.len(),
+        _ => false,
+    }
+}
+
+/// Whether the file number `file` may be split.
+fn may_be_split(ways: &[FileWay], file: usize) -> bool
+    ensures { IsTrue result ↔ MayBeSplit ways.now file }
+{
+    match ways.get(file) {
+        Some(way) => way.may_be_split,
+        None => false,
     }
 }

@@ -1,24 +1,24 @@
 //! The one job over open files and streams.
-ghost use Rattle.std.specs.Prelude.{◌≡◌, ◌↔◌, true, false, IsTrue, IfOk, IfErr, OnOk, IfSome};
+ghost use Rattle.std.specs.Prelude.{◌≡◌, ◌⊎◌, ◌↔◌, true, false, IsTrue, map, slice_get, Ok, None, IfOk, IfErr};
+ghost use Rattle.std.specs.Prelude.{OnOk, OnErr, IfSome};
 ghost use Rattle.std.specs.List as list;
 ghost use Rattle.osm_files.specs.Change.{change_of};
-ghost use Rattle.osm_files.specs.Clear.{IsCleared};
-ghost use Rattle.osm_files.specs.Fault.{memory_fault};
+ghost use Rattle.osm_files.specs.CutBack.{HasLength, IsCutBack};
+ghost use Rattle.osm_files.specs.Fault.{memory_fault, write_fault};
 ghost use Rattle.osm_merge.specs.Merged.{Grows};
-ghost use Rattle.osm_mirror.specs.run.FilesRefusal.{RefusesFilesJob, IsOutputFault, MayBeSplit, IsFirstFound};
-ghost use Rattle.osm_mirror.specs.run.FilesJob.{read_as_of, IsFilesJob, WroteTo, EndsByRule};
+ghost use Rattle.osm_mirror.specs.run.FilesRefusal.{RefusesFilesJob, RefusesAnyOrder, AreSound, FindsFirst};
+ghost use Rattle.osm_mirror.specs.run.FilesRefusal.{NothingStands};
+ghost use Rattle.osm_mirror.specs.run.FilesJob.{read_as_of, opened_of, IsFilesJob, EndsByRule, FilesFit};
 ghost use Rattle.osm_mirror.specs.declared.run.files_job.Order.TheVariants as order;
 
 use crate::run::file_end::refuse_cut;
-use crate::run::file_way::{FileWay, FirstUnsorted, last_ways, ways_after, ways_at_first};
+use crate::run::file_way::{FileWay, file_to_try, first_ways, leaves_open, split_ways};
 use crate::run::files_turn::run_turn;
+use crate::run::first_fault::{first_fault_of, refuse_faulty};
 use crate::run::input::ReadAs;
-use osm_files::{Broken, ClearOutput, EndRule, Fault, Format, Input, ReadAt, Reason};
+use osm_files::{Broken, CutBackOutput, EndRule, Fault, Format, Input, ReadAt, Reason};
 use osm_merge::{Counts, Progress, Selection};
 use std::alloc::Global;
-
-/// The most turns of a job.
-const TURNS: usize = 3;
 
 /// An open file of a job, and the rule for its end.
 #[derive(Drop)]
@@ -65,6 +65,9 @@ pub struct FilesJob {
     pub selection: Selection,
     /// The order that the versions of each file must have.
     pub order: Order,
+    /// Whether the largest file may be taken as sorted without a look at all of it, although the order is `Any`. The
+    /// job writes the same either way.
+    pub tries_largest: bool,
     /// The format of the output.
     pub format: Format,
 }
@@ -74,60 +77,227 @@ pub struct FilesJob {
 /// If it returns `Ok`, each file is a file of its grammar, sorted if the order of the job is `Sorted`, and ends as its
 /// rule says. The bytes written are the one spelling of the selection of the union of the files' sets.
 ///
-/// The job looks at the ends of the files that aren't streams before it reads or writes anything.
+/// The job looks at the sizes and the ends of the files that aren't streams before it reads or writes anything.
 ///
-/// If the order is `Any`, a file is first read as a sorted one, unless a look at a few of its versions shows that it
-/// isn't. If it is refused as `Unsorted`, it is split into sorted
-/// runs, or read to its end, and the job begins anew: the output is cleared, and `progress.begin` is called. If that
-/// happens a second time, all files are split, so there are at most three turns. If the output can't be cleared, or if
-/// there is a stream, there is one turn: all files are split before anything is written, and each stream is read to its
-/// end.
+/// If the order is `Any`, each file is split into sorted runs, or read to its end, before anything is written. If the
+/// output can be cut back and no file is a stream, the largest file may be taken as sorted (`job.tries_largest`). If
+/// it isn't, the output is cut back, the file is split, and the job begins again, for the last time; `progress.begin`
+/// is called. If the output can't be cut back, each file is first read to its end, unit by unit, so that nothing is
+/// written if one is faulty.
 ///
 /// # Errors
 ///
 /// The files are numbered from 0, and the number of the output is the number of files. If a file can't be read, or
-/// isn't sorted though the order is `Sorted`, the fault has its number, the reason and the offset in the file. A file
-/// that lacks its end is refused as `NoEnd` at its length, unless a whole unit before is at fault. If several files are
-/// faulty, it is the fault of one of them. `WriteFault` if the output failed or can't be cleared,
+/// isn't sorted though the order is `Sorted`, the fault is the file's first one, with its number, the reason and the
+/// offset in the file: a file of any order is read once more up to there. A file that lacks its end is refused as
+/// `NoEnd` at its length, unless a whole unit before is at fault. If several files are faulty, it is the fault of one
+/// of them. `WriteFault` if the output failed, at the number of bytes that it took, or can't be cut back, at 0;
 /// `TooLong` if a file has 2^62 bytes or more, `Memory` if memory ran out.
-pub fn run_files<'f, F: ReadAt, R: Input + Drop, W: ClearOutput, P: Progress>(
+///
+/// If the order is `Any` and the output can be cut back, nothing that the job wrote is left after a refusal. If it
+/// can't be cut back, nothing was written before the fault of a file, unless a later read of it fails.
+pub fn run_files<'f, F: ReadAt, R: Input + Drop, W: CutBackOutput, P: Progress>(
     alloc: Global,
     job: FilesJob,
     files: Vec<JobFile<'f, F, R>>,
     out: &mut W,
     progress: &mut P,
 ) -> Result<Counts, Fault>
-    ensures written { IfOk result (λ counts. WroteTo W.Output (W.can_clear out.old) out.old out.new (λ change.
-        IsFilesJob F.bytes R.can_give job files.entry.items change counts)) }
-    ensures refused { IfErr result (RefusesFilesJob F.fails F.bytes R.can_give W.Output (W.can_clear out.old) job
+    ensures written { IfOk result (IsFilesJob F.bytes R.can_give job files.entry.items
+        (change_of W.Output out.old out.new)) }
+    ensures refused { IfErr result (RefusesFilesJob F.fails F.bytes R.can_give W.Output (W.can_cut out.old) job
         files.entry.items out.old out.new) }
     ensures ended { OnOk result (list.All (EndsByRule F.bytes) files.entry.items) }
-    ensures kept { W.can_clear out.old ≡ false → Grows (change_of W.Output out.old out.new) }
+    ensures kept { (job.order ≡ order.Sorted) ⊎ (W.can_cut out.old ≡ false)
+        → Grows (change_of W.Output out.old out.new) }
     ensures good { OnOk result (W.failed out.new ≡ false) }
 {
+    let ways = first_ways(alloc, job.order, files.as_slice())?;
     refuse_cut(alloc, job.order, files.as_slice())?;
-    let can_begin_anew = may_begin_anew(job.order, out);
-    let mut ways = ways_at_first(alloc, job.order, files.as_slice(), can_begin_anew)?;
-    'turns: for turn in 1..TURNS {
-        let Some(again) = copies(alloc, can_begin_anew, files.as_slice())? else {
-            break;
-        };
-        let outcome = run_turn(alloc, job, again, ways.as_slice(), out, progress);
-        let Some(first) = first_unsorted(&outcome, ways.as_slice()) else {
-            return outcome;
-        };
-        ways = ways_after(alloc, files.as_slice(), ways, first, turn)?;
-        clear(out, files.len())?;
+    if !job.order.is_any() {
+        return run_turn(alloc, job, files, ways.as_slice(), out, progress);
     }
-    let settled = last_ways(alloc, job.order, files.as_slice(), ways)?;
+    if !out.can_be_cut_back() {
+        refuse_faulty(alloc, files.as_slice())?;
+    }
+    let opened = opened(alloc, files.as_slice())?;
+    match run_any_order(alloc, job, files, ways, out, progress) {
+        Ok(counts) => Ok(counts),
+        Err(fault) => Err(first_fault(alloc, opened.as_slice(), fault)),
+    }
+}
+
+/// The files that are open, each with the rule for its end; `None` for a stream.
+fn opened<'f, F: ReadAt, R>(
+    alloc: Global,
+    files: &[JobFile<'f, F, R>],
+) -> Result<Vec<Option<(&'f F, EndRule)>>, Fault>
+    ensures opened { IfOk result (λ opened. opened.items ≡ map opened_of files.now) }
+    ensures memory { IfErr result (λ fault. fault ≡ memory_fault) }
+{
+    let mut opened = Vec::new(alloc);
+    'files: for file in files {
+        match file {
+            JobFile::File(file, end) => opened.push(Some((*file, *end)))?,
+            JobFile::Stream(_, _) => opened.push(None)?,
+        }
+    }
+    Ok(opened)
+}
+
+/// The first fault of the file of any order that `fault` names, if it isn't accepted; otherwise the fault itself.
+fn first_fault<F: ReadAt>(alloc: Global, opened: &[Option<(&F, EndRule)>], fault: Fault) -> Fault
+    ensures memory { fault ≡ memory_fault → result ≡ fault }
+    ensures first { FindsFirst F.fails F.bytes (slice_get opened.now fault.input) fault result }
+{
+    if fault == Fault::memory() {
+        return fault;
+    }
+    match opened.get(fault.input) {
+        Some(Some((file, end))) => first_fault_of(alloc, Order::Any, *end, *file, fault),
+        _ => fault,
+    }
+}
+
+/// Appends the file of a job over files of any order. If the output can't be cut back, each regular file was read to
+/// its end before.
+fn run_any_order<'f, F: ReadAt, R: Input + Drop, W: CutBackOutput, P: Progress>(
+    alloc: Global,
+    job: FilesJob,
+    files: Vec<JobFile<'f, F, R>>,
+    ways: Vec<FileWay>,
+    out: &mut W,
+    progress: &mut P,
+) -> Result<Counts, Fault>
+    requires any { job.order ≡ order.Any }
+    requires fit { FilesFit F.bytes order.Any files.items ways.items }
+    requires sound { W.can_cut out.old ≡ false → list.All (AreSound F.bytes) files.items }
+    ensures written { IfOk result (IsFilesJob F.bytes R.can_give job files.entry.items
+        (change_of W.Output out.old out.new)) }
+    ensures refused { IfErr result (RefusesAnyOrder F.fails F.bytes R.can_give W.Output (W.can_cut out.old) job
+        files.entry.items out.old out.new) }
+    ensures kept { W.can_cut out.old ≡ false → Grows (change_of W.Output out.old out.new) }
+    ensures good { OnOk result (W.failed out.new ≡ false) }
+{
+    if out.can_be_cut_back() {
+        run_again(alloc, job, files, ways, out, progress)
+    } else {
+        run_once(alloc, job, files, ways, out, progress)
+    }
+}
+
+/// Appends the file of a job to an output that can't be cut back. Each regular file was read to its end before.
+fn run_once<'f, F: ReadAt, R: Input + Drop, W: CutBackOutput, P: Progress>(
+    alloc: Global,
+    job: FilesJob,
+    files: Vec<JobFile<'f, F, R>>,
+    ways: Vec<FileWay>,
+    out: &mut W,
+    progress: &mut P,
+) -> Result<Counts, Fault>
+    requires any { job.order ≡ order.Any }
+    requires fit { FilesFit F.bytes order.Any files.items ways.items }
+    requires sound { list.All (AreSound F.bytes) files.items }
+    ensures written { IfOk result (IsFilesJob F.bytes R.can_give job files.entry.items
+        (change_of W.Output out.old out.new)) }
+    ensures refused { IfErr result (RefusesAnyOrder F.fails F.bytes R.can_give W.Output false job
+        files.entry.items out.old out.new) }
+    ensures kept { Grows (change_of W.Output out.old out.new) }
+    ensures good { OnOk result (W.failed out.new ≡ false) }
+{
+    let settled = split_ways(alloc, files.as_slice(), ways, None)?;
     run_turn(alloc, job, files, settled.as_slice(), out, progress)
 }
 
-/// Whether a job over files of this order may begin anew.
-fn may_begin_anew<W: ClearOutput>(order: Order, out: &W) -> bool
-    ensures { result ≡ true → (W.can_clear out.now ≡ true) × (order ≡ Order.Any) }
+/// Appends the file of a job to an output that can be cut back. After a refusal it is cut back.
+fn run_again<'f, F: ReadAt, R: Input + Drop, W: CutBackOutput, P: Progress>(
+    alloc: Global,
+    job: FilesJob,
+    files: Vec<JobFile<'f, F, R>>,
+    ways: Vec<FileWay>,
+    out: &mut W,
+    progress: &mut P,
+) -> Result<Counts, Fault>
+    requires any { job.order ≡ order.Any }
+    requires fit { FilesFit F.bytes order.Any files.items ways.items }
+    ensures written { IfOk result (IsFilesJob F.bytes R.can_give job files.entry.items
+        (change_of W.Output out.old out.new)) }
+    ensures refused { IfErr result (RefusesAnyOrder F.fails F.bytes R.can_give W.Output true job
+        files.entry.items out.old out.new) }
+    ensures good { OnOk result (W.failed out.new ≡ false) }
 {
-    order.is_any() && out.can_be_cleared()
+    let tried = file_to_try(alloc, job, files.as_slice(), ways.as_slice());
+    let ways = split_ways(alloc, files.as_slice(), ways, tried)?;
+    if let Some(again) = copies(alloc, tried.is_some(), files.as_slice())? {
+        let made = try_turn(alloc, job, again, ways.as_slice(), out, progress)?;
+        if let Some(counts) = made {
+            return Ok(counts);
+        }
+    }
+    last_turn(alloc, job, files, ways, out, progress)
+}
+
+/// Runs a turn in which a file may be taken as sorted. The result is `None` if the turn doesn't decide the job. After
+/// that, and after a refusal, the output is cut back.
+fn try_turn<'f, F: ReadAt, R: Input + Drop, W: CutBackOutput, P: Progress>(
+    alloc: Global,
+    job: FilesJob,
+    files: Vec<JobFile<'f, F, R>>,
+    ways: &[FileWay],
+    out: &mut W,
+    progress: &mut P,
+) -> Result<Option<Counts>, Fault>
+    requires any { job.order ≡ order.Any }
+    requires fit { FilesFit F.bytes order.Any files.items ways.now }
+    ensures written { IfOk result (λ made. IfSome made (IsFilesJob F.bytes R.can_give job files.entry.items
+        (change_of W.Output out.old out.new))) }
+    ensures undone { result ≡ Ok None → NothingStands W.Output out.old out.new }
+    ensures refused { IfErr result (RefusesAnyOrder F.fails F.bytes R.can_give W.Output true job
+        files.entry.items out.old out.new) }
+    ensures good { IfOk result (λ made. IfSome made (λ _. W.failed out.new ≡ false)) }
+{
+    let number = files.as_slice().len();
+    let start = length_of(out, number)?;
+    match run_turn(alloc, job, files, ways, out, progress) {
+        Ok(counts) => Ok(Some(counts)),
+        Err(fault) => {
+            cut_back(out, number, start)?;
+            if leaves_open(ways, fault) {
+                return Ok(None);
+            }
+            Err(fault)
+        }
+    }
+}
+
+/// Splits the files that may still be split, and runs a turn that decides the job. After a refusal the output is cut
+/// back.
+fn last_turn<'f, F: ReadAt, R: Input + Drop, W: CutBackOutput, P: Progress>(
+    alloc: Global,
+    job: FilesJob,
+    files: Vec<JobFile<'f, F, R>>,
+    ways: Vec<FileWay>,
+    out: &mut W,
+    progress: &mut P,
+) -> Result<Counts, Fault>
+    requires any { job.order ≡ order.Any }
+    requires fit { FilesFit F.bytes order.Any files.items ways.items }
+    ensures written { IfOk result (IsFilesJob F.bytes R.can_give job files.entry.items
+        (change_of W.Output out.old out.new)) }
+    ensures refused { IfErr result (RefusesAnyOrder F.fails F.bytes R.can_give W.Output true job
+        files.entry.items out.old out.new) }
+    ensures good { OnOk result (W.failed out.new ≡ false) }
+{
+    let number = files.as_slice().len();
+    let settled = split_ways(alloc, files.as_slice(), ways, None)?;
+    let start = length_of(out, number)?;
+    match run_turn(alloc, job, files, settled.as_slice(), out, progress) {
+        Ok(counts) => Ok(counts),
+        Err(fault) => {
+            cut_back(out, number, start)?;
+            Err(fault)
+        }
+    }
 }
 
 /// The files once more, unless one is a stream; none if they aren't `wanted`.
@@ -137,7 +307,6 @@ fn copies<'f, F: ReadAt, R: Drop>(
     files: &[JobFile<'f, F, R>],
 ) -> Result<Option<Vec<JobFile<'f, F, R>>>, Fault>
     ensures same { IfOk result (λ copied. IfSome copied (λ copies. copies.items ≡ files.now)) }
-    ensures wanted { IfOk result (λ copied. IfSome copied (λ _. wanted ≡ true)) }
     ensures memory { IfErr result (λ fault. fault ≡ memory_fault) }
 {
     if !wanted {
@@ -153,37 +322,27 @@ fn copies<'f, F: ReadAt, R: Drop>(
     Ok(Some(copies))
 }
 
-/// The first version out of order, if a turn was refused because a file that may be split isn't sorted.
-fn first_unsorted(outcome: &Result<Counts, Fault>, ways: &[FileWay]) -> Option<FirstUnsorted>
-    ensures { IsFirstFound outcome.now ways.now result }
+/// The number of bytes that the output holds, whose number is `number`.
+fn length_of<W: CutBackOutput>(out: &mut W, number: usize) -> Result<u64, Fault>
+    ensures length { IfOk result (HasLength (W.holds out.new)) }
+    ensures same { OnOk result (NothingStands W.Output out.old out.new) }
+    ensures fault { IfErr result (λ fault. fault ≡ write_fault number 0) }
+    ensures failed { OnErr result (W.failed out.new ≡ true) }
 {
-    match outcome {
-        Err(fault) if fault.reason == Reason::Unsorted && may_be_split(ways, fault.input) => {
-            Some(FirstUnsorted {
-                file: fault.input,
-                offset: fault.place,
-            })
-        }
-        _ => None,
+    match out.length() {
+        Ok(length) => Ok(length),
+        Err(Broken) => Err(Fault::at(number, 0, Reason::WriteFault)),
     }
 }
 
-/// Whether the file number `file` may be split.
-fn may_be_split(ways: &[FileWay], file: usize) -> bool
-    ensures { IsTrue result ↔ MayBeSplit ways.now file }
+/// Cuts the output, whose number is `number`, back to `length` bytes.
+fn cut_back<W: CutBackOutput>(out: &mut W, number: usize, length: u64) -> Result<(), Fault>
+    ensures cut { OnOk result (IsCutBack (W.holds out.old) (W.holds out.new) length) }
+    ensures lasts { OnOk result (W.failed out.new ≡ W.failed out.old) }
+    ensures fault { IfErr result (λ fault. fault ≡ write_fault number 0) }
+    ensures failed { OnErr result (W.failed out.new ≡ true) }
 {
-    match ways.get(file) {
-        Some(way) => way.may_be_split,
-        None => false,
-    }
-}
-
-/// Clears the output, whose number is `number`.
-fn clear<W: ClearOutput>(out: &mut W, number: usize) -> Result<(), Fault>
-    ensures cleared { OnOk result (IsCleared (W.holds out.old) (W.holds out.new)) }
-    ensures fault { IfErr result (IsOutputFault number) }
-{
-    match out.clear() {
+    match out.cut_back(length) {
         Ok(()) => Ok(()),
         Err(Broken) => Err(Fault::at(number, 0, Reason::WriteFault)),
     }

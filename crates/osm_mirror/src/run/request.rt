@@ -2,7 +2,8 @@
 ghost use Rattle.std.specs.Prelude.{◌≡◌, ◌≢◌, Some, None, IfSome, MatchResult};
 ghost use Rattle.opl_line.specs.Time.{reading_time};
 ghost use Rattle.osm_mirror.specs.declared.run.request.Command.{Command};
-ghost use Rattle.osm_mirror.specs.run.Request.{command_name, order_for, applied_selection, filtered_selection};
+ghost use Rattle.osm_mirror.specs.run.Request.{command_name, order_for, tries_largest};
+ghost use Rattle.osm_mirror.specs.run.Request.{applied_selection, filtered_selection};
 ghost use Rattle.osm_mirror.specs.run.Request.{moment_of, selection_for, requested_job};
 
 use crate::run::files_job::{FilesJob, Order};
@@ -85,6 +86,7 @@ impl<'a> FileRequest<'a> {
             Ok(selection) => Ok(FilesJob {
                 selection,
                 order: self.order(),
+                tries_largest: self.tries_largest(),
                 format: self.format,
             }),
             Err(fault) => Err(fault),
@@ -99,6 +101,17 @@ impl<'a> FileRequest<'a> {
             Command::Merge => Order::Sorted,
             _ if self.sorted => Order::Sorted,
             _ => Order::Any,
+        }
+    }
+
+    /// Whether the largest file may be taken as sorted without a look at all of it. The map that changes are applied
+    /// to, and that is filtered by time, often is.
+    fn tries_largest(&self) -> bool
+        ensures { result ≡ tries_largest self.now.command }
+    {
+        match self.command {
+            Command::Apply | Command::TimeFilter => true,
+            Command::Merge | Command::Sort => false,
         }
     }
 

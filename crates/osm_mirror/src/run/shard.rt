@@ -1,5 +1,8 @@
 //! The shards of an output.
-ghost use Rattle.std.specs.Prelude.{◌≡◌, ◌↔◌, ◌≤◌, IfSome, IsSome};
+ghost use Rattle.std.specs.Prelude.{◌≡◌, ◌↔◌, ◌≤◌, ℕ, None, IfSome, IsSome};
+ghost use Rattle.osm_mirror.specs.run.Shard.{SpellsShard};
+
+use crate::digits::read_decimal;
 
 /// The greatest number of shards of an output.
 const MOST_SHARDS: u64 = 9999;
@@ -29,18 +32,17 @@ impl Shard {
     }
 
     /// The shard that `text` spells as `K/N`, the shard K of N. Each number is of decimal digits.
-    pub fn read(text: &str) -> Option<Shard> {
-        let (number, count) = text.split_once('/')?;
-        Shard::new(read_number(number)?, read_number(count)?)
-    }
-}
-
-/// The number that `text` spells in decimal digits.
-fn read_number(text: &str) -> Option<u64> {
-    if text.starts_with('+') {
-        None
-    } else {
-        text.parse().ok()
+    pub fn read(text: &str) -> Option<Shard>
+        ensures shard { IfSome result (λ shard. SpellsShard text.now shard.number shard.count) }
+        ensures none { result ≡ None → (number count : ℕ) → SpellsShard text.now number count → ⊥ }
+    {
+        let Some((number, count)) = text.split_once('/') else {
+            return None;
+        };
+        match (read_decimal(number), read_decimal(count)) {
+            (Some(number), Some(count)) => Shard::new(number, count),
+            _ => None,
+        }
     }
 }
 

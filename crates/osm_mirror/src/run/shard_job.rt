@@ -13,20 +13,20 @@ ghost use Rattle.osm_merge.specs.Slice.{is_ascending, is_ascending_between};
 ghost use Rattle.osm_mirror.specs.run.Bounds.{shard_span, total_weight};
 ghost use Rattle.osm_mirror.specs.run.Probes.{HaveBytes, Ascend};
 ghost use Rattle.osm_mirror.specs.run.ShardExtent.{IsExtentOf, IsInputOf, AreInputsOf};
-ghost use Rattle.osm_mirror.specs.run.ShardRefusal.{IsFileRefusal, IsFaultOfFile, IsFirstFault, AreRefused};
+ghost use Rattle.osm_mirror.specs.run.ShardRefusal.{IsFileRefusal, AreRefused};
 ghost use Rattle.osm_mirror.specs.run.ShardRefusal.{RefusesSpan};
 ghost use Rattle.osm_mirror.specs.run.ShardRefusal.{RefusesShardJob, IsFaultByRule, EndByRule, fault_in_extent};
 ghost use Rattle.osm_mirror.specs.run.ShardJob.{IsShardJob, IsSpanJob};
 ghost use Rattle.osm_mirror.specs.run.ShardSpan.{bound_after, span_of_number};
 
 use crate::run::bounds::{Found, bound, find_objects};
-use crate::run::check::run_check_sorted;
 use crate::run::file_end::refuse_cut_file;
 use crate::run::files_job::Order;
+use crate::run::first_fault::first_fault_of;
 use crate::run::shard::Shard;
 use crate::run::shard_extent::{FileExtent, extent_of};
 use crate::run::slice::{Slice, SliceFile, run_slice};
-use osm_files::{Broken, EndRule, Fault, Format, FramedExtent, Output, ReadAt, Reason, SortedRun};
+use osm_files::{EndRule, Fault, Format, FramedExtent, Output, ReadAt};
 use osm_merge::{Counts, Progress, Selection, Span};
 use osm_model::Object;
 use std::alloc::Global;
@@ -84,11 +84,11 @@ pub fn run_shard<F: ReadAt, W: Output, P: Progress>(
     refuse_cut_files(alloc, files, job.end)?;
     let span = match span_of_shard(alloc, files, job.shard) {
         Ok(span) => span,
-        Err(fault) => return Err(first_fault(alloc, files, fault)),
+        Err(fault) => return Err(first_fault(alloc, files, job.end, fault)),
     };
     match write_span(alloc, job, span, files, out, progress) {
         Ok(counts) => Ok(counts),
-        Err(fault) => Err(first_fault(alloc, files, fault)),
+        Err(fault) => Err(first_fault(alloc, files, job.end, fault)),
     }
 }
 
@@ -253,35 +253,21 @@ fn fault_of_file(extents: &[FileExtent], files: usize, fault: Fault) -> Fault
     }
 }
 
-/// The first fault of the file that a fault names, if it isn't a sorted file; otherwise the fault itself.
+/// The first fault of the file that a fault names, if it isn't a sorted file that ends as `end` requires; otherwise the
+/// fault itself.
 ///
 /// Why: an extent of a file shows some fault of the file, and not the first one.
-fn first_fault<F: ReadAt>(alloc: Global, files: &[&F], fault: Fault) -> Fault
+fn first_fault<F: ReadAt>(alloc: Global, files: &[&F], end: EndRule, fault: Fault) -> Fault
     ensures file { AreRefused (λ file. F.bytes file.now) (λ file. F.fails file.now) IsFileRefusal files.now fault
-        → AreRefused (λ file. F.bytes file.now) (λ file. F.fails file.now) IsFaultOfFile files.now result }
+        → AreRefused (λ file. F.bytes file.now) (λ file. F.fails file.now) (IsFaultByRule end) files.now result }
     ensures same { (fault ≡ memory_fault) ⊎ (length files.now ≤ fault.input) → result ≡ fault }
 {
     if fault == Fault::memory() {
         return fault;
     }
     match files.get(fault.input) {
-        Some(file) => first_fault_of(alloc, *file, fault),
+        Some(file) => first_fault_of(alloc, Order::Sorted, end, *file, fault),
         None => fault,
-    }
-}
-
-/// The first fault of a file, or `fault` if the whole file is sorted.
-fn first_fault_of<F: ReadAt>(alloc: Global, file: &F, fault: Fault) -> Fault
-    ensures { IsFirstFault (F.fails file.now) (F.bytes file.now) fault result }
-{
-    let size = match file.size() {
-        Ok(size) => size,
-        Err(Broken) => return Fault::at(fault.input, 0, Reason::ReadFault),
-    };
-    let whole = FramedExtent::of_run(file, size, SortedRun::whole());
-    match run_check_sorted(alloc, whole) {
-        Ok(_) => fault,
-        Err(first) => Fault::at(fault.input, first.place, first.reason),
     }
 }
 

@@ -1,4 +1,3 @@
-use Rattle.std.proofs.Common.{◌≡◌, ◌-◌}
 use Rattle.osm_files.proofs.EndRuleLaws.{look}
 use Rattle.osm_files.proofs.end_rule.lacks_line_feed.Goals as goal
 

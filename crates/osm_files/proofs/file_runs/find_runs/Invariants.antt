@@ -8,4 +8,4 @@ abbrev pub invariant-runs : goal.invariant-runs
 invariant-runs g l =
     IfSome (g.F.ReadAt.bytes l.file) (λ all. length all < 2 ^ 64 → IsSplitIntoRuns all (runs_of l.split))
     × (length l.split.fronts ≤ l.done)
-    × IfWhole (g.F.ReadAt.bytes l.file) l.size (λ all. Found all l.fn.first l.known l.split)
+    × IfWhole (g.F.ReadAt.bytes l.file) l.size (λ all. Found all l.split)

@@ -1,4 +1,4 @@
-use Rattle.std.proofs.Common.{◌≡◌, inl, subst}
+use Rattle.std.proofs.Common.{inl, subst}
 use Rattle.std.proofs.lemmas.Result.{IfOk-weaker, IfErr-weaker}
 use Rattle.osm_files.specs.EndRule.{by_rule, by_test}
 use Rattle.osm_files.specs.Input.{InputRest, GivesOne}

@@ -1,6 +1,6 @@
-use Rattle.std.proofs.Common.{◌++◌, ◌∷◌, [], subst, Some}
+use Rattle.std.proofs.Common.{◌++◌, ◌∷◌, [], Some}
 use Rattle.std.proofs.lemmas.Result.{err_from_is_err_and}
-use Rattle.osm_files.specs.Position.{Position, with_rest, units_or_failed, at_start_with}
+use Rattle.osm_files.specs.Position.{with_rest, units_or_failed, at_start_with}
 use Rattle.osm_files.proofs.LoadLaws.{load_step, load_ends, load_stops, loads_itself, accepted, stops}
 use Rattle.osm_files.proofs.load.read_units.Goals as goal
 

@@ -51,6 +51,7 @@ fn job_text(alloc: Global, order: Order, end: EndRule, files: &[&[u8]], is_strea
     let run = FilesJob {
         selection: Selection::All,
         order,
+        tries_largest: true,
         format: Format::Opl,
     };
     let inputs = files_of(alloc, files, end, is_stream);

@@ -51,6 +51,7 @@ fn commands_select_versions(rt: HostRuntime) {
         let run = FilesJob {
             selection,
             order: asked.order(),
+            tries_largest: asked.tries_largest(),
             format: Format::Opl,
         };
         assert_eq!(rt; asked.run(), Ok(run));

@@ -1,5 +1,11 @@
-use Rattle.std.proofs.Common.{◌≡◌, length}
+use Rattle.std.proofs.Common.{◌≡◌, map, take, length, []}
+use Rattle.std.specs.List.{slice_get}
+use Rattle.std.specs.Option.{unwrap_or, option_map}
 use Rattle.osm_hist.proofs.cli.plan_run.bytes_of.Given as goal
 
 abbrev pub invariant-indices : goal.invariant-indices
-invariant-indices l = length l.bytes.items ≡ l.index-index
+invariant-indices l = record {
+  count : length l.bytes.items ≡ l.index-index;
+  bytes : map (λ b. b.now) l.bytes.items
+      ≡ map (λ i. unwrap_or (option_map (λ file. file.bytes.items) (slice_get l.files i)) []) (take l.index-index l.indices);
+}

@@ -5,7 +5,8 @@ use Rattle.std.specs.List.{All}
 use Rattle.osm_files.proofs.SinkLaws.{front_at}
 use Rattle.osm_mirror.specs.declared.run.files_job.JobFile.{JobFile}
 use Rattle.osm_mirror.specs.run.FilesJob.{EndsByRule}
-use Rattle.osm_mirror.proofs.run_laws.FileEndLaws.{all_more, among_by_rule}
+use Rattle.osm_mirror.specs.declared.run.files_job.JobFile.TheVariants.{File}
+use Rattle.osm_mirror.proofs.run_laws.WayLaws.{all_more, among_by_rule}
 use Rattle.osm_mirror.proofs.run.file_end.refuse_cut.Goals.{in-File+in_ok-refuse_cut_file, in_default}
 use Rattle.osm_mirror.proofs.run.file_end.refuse_cut.Goals as goal
 
@@ -14,7 +15,7 @@ returns-in_err-refuse_cut_file-clause-refused g c =
     let p = err_from_is_err_and c.from_residual.result c.from_residual.ensures.1 in
     rw (p.1, p.2)
     (among_by_rule g.F.ReadAt.fails g.F.ReadAt.bytes g.R.Input.can_give c.args.order c.args.files.now c.files.input
-    c.in-File.file c.in-File.end c.in_err-refuse_cut_file.field-0.0 (omega (arith, c.files-test.true))
+    (File c.in-File.file c.in-File.end) c.in_err-refuse_cut_file.field-0.0 (omega (arith, c.files-test.true))
     (subst (λ (x : JobFile _ _). x ≡ get_or c.args.files.now c.files.input x) c.in-File.is c.index-files-input.is)
     c.in_err-refuse_cut_file.ensures.refused)
 

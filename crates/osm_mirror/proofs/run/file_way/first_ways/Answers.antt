@@ -3,7 +3,7 @@ use Rattle.std.proofs.lemmas.Result.{err_from_is_err_and}
 use Rattle.osm_model.proofs.PairwiseLaws.{pairwise_push}
 use Rattle.osm_files.proofs.SinkLaws.{front_at}
 use Rattle.osm_mirror.specs.run.FilesJob.{FileFits, FilesFit}
-use Rattle.osm_mirror.proofs.run_laws.WayLaws.{among_files}
+use Rattle.osm_mirror.proofs.run_laws.WayLaws.{among_by_rule}
 use Rattle.osm_mirror.proofs.run.file_way.first_ways.Goals as goal
 
 pub files-preserved : goal.files-preserved
@@ -22,6 +22,6 @@ pub returns-in_err-first_way-clause-refused : goal.returns-in_err-first_way-clau
 returns-in_err-first_way-clause-refused g c =
     let p = err_from_is_err_and c.from_residual.result c.from_residual.ensures.1 in
     rw (p.1, p.2)
-    (among_files g.F.ReadAt.fails g.F.ReadAt.bytes g.R.Input.can_give c.args.order c.args.files.now c.files.input
+    (among_by_rule g.F.ReadAt.fails g.F.ReadAt.bytes g.R.Input.can_give c.args.order c.args.files.now c.files.input
     c.index-files-input.result c.in_err-first_way.field-0.0 (omega (arith, c.files-test.true)) c.index-files-input.is
     c.in_err-first_way.ensures.refused)

@@ -1,9 +1,8 @@
-use Rattle.std.proofs.Common.{false, inr, IfSome, refl, sym, subst}
+use Rattle.std.proofs.Common.{false, inr, refl, sym, subst}
 use Rattle.std.proofs.lemmas.Result.{IfOk-weaker}
 use Rattle.osm_mirror.specs.declared.run.file_way.FileWay.{FileWay}
 use Rattle.osm_mirror.specs.declared.run.files_job.Order.TheVariants.{Any, Sorted}
 use Rattle.osm_mirror.specs.declared.run.files_job.JobFile.{JobFile}
-use Rattle.osm_mirror.specs.run.FilesRefusal.{IsFirstIn}
 use Rattle.osm_mirror.specs.run.FilesJob.{FileFits}
 use Rattle.osm_mirror.proofs.run_laws.WayLaws.{runs_sorted, runs_fit, held_fits}
 use Rattle.osm_mirror.proofs.run.file_way.split_file.Goals as goal
@@ -15,14 +14,13 @@ returns-in-Some-clause-fits g c =
     let size = c.in_ok-size.size in
     let long = c.in_ok-size.ensures.size in
     let way : FileWay = record { order = Sorted; runs = c.in-Some.runs; size = size; may_be_split = false } in
-    let right = subst (λ (x : JobFile _ _). IfSome c.args.first (IsFirstIn bytes x)) c.in-File.is c.requires.first in
     subst (λ (x : JobFile _ _). FileFits bytes Any x way) (sym c.in-File.is) (
       inr (inr (
         refl,
         (
           refl,
           refl,
-          runs_sorted known size c.args.first c.in-Some.runs.items long right
+          runs_sorted known size c.in-Some.runs.items long
               (rw c.in-Some.is at c.in_ok-runs.ensures.sorted) (rw c.in-Some.is at c.in_ok-runs.ensures.accepted),
         ),
       )),

@@ -1,5 +1,4 @@
-use Rattle.std.proofs.Common.{◌≡◌, length, take}
-use Rattle.osm_mirror.specs.declared.run.file_way.FilesToSplit.TheVariants as to_split
+use Rattle.std.proofs.Common.{◌≡◌, None, length, take}
 use Rattle.osm_mirror.specs.declared.run.files_job.Order.TheVariants.{Any}
 use Rattle.osm_mirror.specs.run.FilesRefusal.{AreSettled}
 use Rattle.osm_mirror.specs.run.FilesJob.{FilesFit}
@@ -7,4 +6,4 @@ use Rattle.osm_mirror.proofs.run.file_way.split_files.Given as goal
 
 abbrev pub invariant-files : goal.invariant-files
 invariant-files g l = FilesFit g.F.ReadAt.bytes Any l.files l.ways × (length l.ways ≡ length l.fn.ways)
-    × (l.which ≡ to_split.All → AreSettled (take l.file l.ways))
+    × (l.tried ≡ None → AreSettled (take l.file l.ways))

@@ -1,153 +1,103 @@
-use Rattle.std.proofs.Common.{◌≡◌, ◌∙◌, true, inl, inr, IfErr, Some, None, length, refl, sym, ap, subst}
-use Rattle.std.proofs.lemmas.Result.{err_from_is_err_and}
+use Rattle.std.proofs.Common.{◌≡◌, ◌∙◌, Bool, false, sym, ap, subst, inl, map, slice_get, IfErr}
+use Rattle.std.proofs.lemmas.Bool.{false≢true}
+use Rattle.std.proofs.lemmas.Result.{err_from_is_err_and, IfErr-weaker}
+use Rattle.std.specs.List.{All}
 use Rattle.osm_mirror.specs.declared.run.files_job.Order.{Order}
 use Rattle.osm_mirror.specs.declared.run.files_job.Order.TheVariants.{Any}
-use Rattle.osm_mirror.specs.run.FilesRefusal.{AreRefused, AreRefusedByRule, AreSettled, IsFirstFound, IsFirstOf, IsOutputFault, RefusesTurn}
-use Rattle.std.specs.List.{All}
-use Rattle.osm_mirror.specs.run.FilesJob.{FilesFit, EndsByRule}
-use Rattle.osm_mirror.proofs.run_laws.TurnLaws.{starts_anew, keeps, grew_nothing, refused_before, loop_refused, loop_first}
-use Rattle.osm_mirror.proofs.run_laws.TurnLaws.{last_refused, ends_refused}
-use Rattle.osm_mirror.proofs.run_laws.TurnLaws.{ways_refused, anew_refused}
+use Rattle.osm_mirror.specs.run.FilesJob.{FilesFit, opened_of, EndsByRule}
+use Rattle.osm_mirror.specs.run.FilesRefusal.{AreRefusedByRule, AreSound, FindsFirst}
+use Rattle.osm_mirror.proofs.run_laws.FirstFaultLaws.{first_refuses}
+use Rattle.osm_mirror.proofs.run_laws.TurnLaws.{refused_first, sorted_refused}
+use Rattle.osm_mirror.proofs.run_laws.WayLaws.{not_any}
 use Rattle.osm_mirror.proofs.run.files_job.run_files.Goals as goal
-
-pub returns-in_err-refuse_cut-clause-refused : goal.returns-in_err-refuse_cut-clause-refused
-returns-in_err-refuse_cut-clause-refused g c =
-    let p = err_from_is_err_and c.from_residual.result c.from_residual.ensures.1 in
-    rw (p.1, p.2)
-    (ends_refused g.F.ReadAt.fails g.F.ReadAt.bytes g.R.Input.can_give g.W.Output (g.W.ClearOutput.can_clear c.args.out.now) c.args.job
-    c.args.files.items c.args.out.now c.in_err-refuse_cut.field-0.0
-    (subst (λ fs. AreRefusedByRule g.F.ReadAt.fails g.F.ReadAt.bytes g.R.Input.can_give c.args.job.order fs c.in_err-refuse_cut.field-0.0)
-    c.as_slice.ensures.value c.in_err-refuse_cut.ensures.refused))
+use Rattle.osm_mirror.proofs.run.files_job.run_files.Goals.{then-not-can_be_cut_back+in_ok-refuse_faulty, else-not-can_be_cut_back}
 
 pub returns-in_err-ways-clause-refused : goal.returns-in_err-ways-clause-refused
 returns-in_err-ways-clause-refused g c =
-    let p = err_from_is_err_and c.from_residual-in_err-ways.result c.from_residual-in_err-ways.ensures.1 in
+    let p = err_from_is_err_and c.from_residual.result c.from_residual.ensures.1 in
     rw (p.1, p.2)
-    (refused_before g.F.ReadAt.fails g.F.ReadAt.bytes g.R.Input.can_give g.W.Output (g.W.ClearOutput.can_clear c.args.out.now) c.args.job
-    c.args.files.items
-    (subst (All (EndsByRule g.F.ReadAt.bytes)) c.as_slice.ensures.value c.in_ok-refuse_cut.ensures.ended)
-    c.args.out.now c.args.out.now c.in_err-ways.field-0.0 (inl refl)
-    (subst (λ fs. AreRefused g.F.ReadAt.fails g.F.ReadAt.bytes g.R.Input.can_give c.args.job.order fs c.in_err-ways.field-0.0)
-    c.as_slice-2.ensures.value c.in_err-ways.ensures.refused))
+    (refused_first g.F.ReadAt.fails g.F.ReadAt.bytes g.R.Input.can_give g.W.Output c.args.job c.args.files.items c.args.out.now
+    (g.W.CutBackOutput.can_cut c.args.out.now) c.in_err-ways.field-0.0
+    (subst (λ fs. AreRefusedByRule g.F.ReadAt.fails g.F.ReadAt.bytes g.R.Input.can_give c.args.job.order fs c.in_err-ways.field-0.0)
+    c.as_slice.ensures.value c.in_err-ways.ensures.refused))
 
-pub returns-in_err-again-clause-refused : goal.returns-in_err-again-clause-refused
-returns-in_err-again-clause-refused g c =
-    let p = err_from_is_err_and c.from_residual-in_err-again.result c.from_residual-in_err-again.ensures.1 in
+pub returns-in_err-refuse_cut-clause-refused : goal.returns-in_err-refuse_cut-clause-refused
+returns-in_err-refuse_cut-clause-refused g c =
+    let p = err_from_is_err_and c.from_residual-in_err-refuse_cut.result c.from_residual-in_err-refuse_cut.ensures.1 in
     rw (p.1, p.2)
-    (refused_before g.F.ReadAt.fails g.F.ReadAt.bytes g.R.Input.can_give g.W.Output (g.W.ClearOutput.can_clear c.args.out.now) c.args.job
-    c.args.files.items
-    (subst (All (EndsByRule g.F.ReadAt.bytes)) c.as_slice.ensures.value c.in_ok-refuse_cut.ensures.ended)
-    c.args.out.now c.turns.out c.in_err-again.field-0.0 c.turns.invariant.1 (inl c.in_err-again.ensures.memory))
+    (refused_first g.F.ReadAt.fails g.F.ReadAt.bytes g.R.Input.can_give g.W.Output c.args.job c.args.files.items c.args.out.now
+    (g.W.CutBackOutput.can_cut c.args.out.now) c.in_err-refuse_cut.field-0.0
+    (subst (λ fs. AreRefusedByRule g.F.ReadAt.fails g.F.ReadAt.bytes g.R.Input.can_give c.args.job.order fs c.in_err-refuse_cut.field-0.0)
+    c.as_slice-2.ensures.value c.in_err-refuse_cut.ensures.refused))
 
-pub returns-in_err-again-clause-kept : goal.returns-in_err-again-clause-kept
-returns-in_err-again-clause-kept g c =
-    let can = g.W.ClearOutput.can_clear c.args.out.now in
-    keeps g.W.Output can c.args.job.order c.args.out.now c.turns.out c.turns.out c.turns.invariant.1
-    (grew_nothing g.W.Output can c.args.job.order c.args.out.now c.turns.out)
-
-pub returns-in_default-first_unsorted-clause-refused : goal.returns-in_default-first_unsorted-clause-refused
-returns-in_default-first_unsorted-clause-refused g c =
-    let begins : c.may_begin_anew-can_begin_anew.result ≡ true = rw c.in-Some.is at c.in_ok-again.ensures.wanted in
-    let may = c.turns.invariant.2 begins in
-    let same = rw c.in-Some.is at c.in_ok-again.ensures.same ∙ c.as_slice-in-turns.ensures.value in
-    let turn = subst (λ fs. IfErr c.run_turn-outcome.result (RefusesTurn g.F.ReadAt.fails g.F.ReadAt.bytes g.R.Input.can_give g.W.Output
-    c.args.job fs c.as_slice-in-turns-2.result.now c.turns.out c.run_turn-outcome.new.out)) same c.run_turn-outcome.ensures.refused in
-    loop_refused g.F.ReadAt.fails g.F.ReadAt.bytes g.R.Input.can_give g.W.Output (g.W.ClearOutput.can_clear c.args.out.now) c.args.job
-    c.args.files.items
-    (subst (All (EndsByRule g.F.ReadAt.bytes)) c.as_slice.ensures.value c.in_ok-refuse_cut.ensures.ended)
-    c.args.out.now
-    c.as_slice-in-turns-2.result.now c.turns.out c.run_turn-outcome.new.out c.run_turn-outcome.result may.0 may.1
-    (subst (λ ways. IsFirstFound c.run_turn-outcome.result ways None)
-    (c.as_slice-in-turns-3.ensures.value ∙ sym c.as_slice-in-turns-2.ensures.value) c.in_default-first_unsorted.ensures) turn
-
-pub ways_after-requires-clause-fit : goal.ways_after-requires-clause-fit
-ways_after-requires-clause-fit g c =
-    let begins : c.may_begin_anew-can_begin_anew.result ≡ true = rw c.in-Some.is at c.in_ok-again.ensures.wanted in
-    let may = c.turns.invariant.2 begins in
-    subst (λ fs. FilesFit g.F.ReadAt.bytes Any fs c.turns.ways.items) (sym c.as_slice-in-turns-4.ensures.value)
-    (subst (λ (o : Order). FilesFit g.F.ReadAt.bytes o c.args.files.items c.turns.ways.items) may.1 c.turns.invariant.0)
-
-pub ways_after-requires-clause-first : goal.ways_after-requires-clause-first
-ways_after-requires-clause-first g c =
-    let begins : c.may_begin_anew-can_begin_anew.result ≡ true = rw c.in-Some.is at c.in_ok-again.ensures.wanted in
-    let may = c.turns.invariant.2 begins in
-    let same = rw c.in-Some.is at c.in_ok-again.ensures.same ∙ c.as_slice-in-turns.ensures.value in
-    let turn = subst (λ fs. IfErr c.run_turn-outcome.result (RefusesTurn g.F.ReadAt.fails g.F.ReadAt.bytes g.R.Input.can_give g.W.Output
-    c.args.job fs c.as_slice-in-turns-2.result.now c.turns.out c.run_turn-outcome.new.out)) same c.run_turn-outcome.ensures.refused in
-    let found = rw c.in-Some-first_unsorted.is at c.first_unsorted.ensures in
-    subst (λ fs. IsFirstOf g.F.ReadAt.bytes fs c.in-Some-first_unsorted.first) (sym c.as_slice-in-turns-4.ensures.value)
-    (loop_first g.F.ReadAt.fails g.F.ReadAt.bytes g.R.Input.can_give g.W.Output (g.W.ClearOutput.can_clear c.args.out.now) c.args.job
-    c.args.files.items
-    (subst (All (EndsByRule g.F.ReadAt.bytes)) c.as_slice.ensures.value c.in_ok-refuse_cut.ensures.ended)
-    c.args.out.now
-    c.as_slice-in-turns-2.result.now c.turns.out c.run_turn-outcome.new.out c.run_turn-outcome.result c.in-Some-first_unsorted.first
-    may.1
-    (subst (FilesFit g.F.ReadAt.bytes c.args.job.order c.args.files.items) (sym c.as_slice-in-turns-2.ensures.value) c.turns.invariant.0)
-    (subst (λ ways. IsFirstFound c.run_turn-outcome.result ways (Some c.in-Some-first_unsorted.first))
-    (c.as_slice-in-turns-3.ensures.value ∙ sym c.as_slice-in-turns-2.ensures.value) found) turn)
-
-pub returns-in_err-ways-2-clause-refused : goal.returns-in_err-ways-2-clause-refused
-returns-in_err-ways-2-clause-refused g c =
-    let begins : c.may_begin_anew-can_begin_anew.result ≡ true = rw c.in-Some.is at c.in_ok-again.ensures.wanted in
-    let may = c.turns.invariant.2 begins in
-    let p = err_from_is_err_and c.from_residual-in_err-ways-2.result c.from_residual-in_err-ways-2.ensures.1 in
+pub returns-in_err-refuse_faulty-clause-refused : goal.returns-in_err-refuse_faulty-clause-refused
+returns-in_err-refuse_faulty-clause-refused g c =
+    let any = c.is_any.ensures.0 c.if-not-is_any.false in
+    let p = err_from_is_err_and c.from_residual-in_err-refuse_faulty.result c.from_residual-in_err-refuse_faulty.ensures.1 in
     rw (p.1, p.2)
-    (ways_refused g.F.ReadAt.fails g.F.ReadAt.bytes g.R.Input.can_give g.W.Output (g.W.ClearOutput.can_clear c.args.out.now) c.args.job
-    c.args.files.items
-    (subst (All (EndsByRule g.F.ReadAt.bytes)) c.as_slice.ensures.value c.in_ok-refuse_cut.ensures.ended)
-    c.args.out.now c.run_turn-outcome.new.out c.in_err-ways-2.field-0.0 may.0 may.1
-    (subst (λ fs. AreRefused g.F.ReadAt.fails g.F.ReadAt.bytes g.R.Input.can_give Any fs c.in_err-ways-2.field-0.0)
-    c.as_slice-in-turns-4.ensures.value c.in_err-ways-2.ensures.refused))
+    (refused_first g.F.ReadAt.fails g.F.ReadAt.bytes g.R.Input.can_give g.W.Output c.args.job c.args.files.items c.args.out.now
+    (g.W.CutBackOutput.can_cut c.args.out.now) c.in_err-refuse_faulty.field-0.0
+    (subst (λ (o : Order). AreRefusedByRule g.F.ReadAt.fails g.F.ReadAt.bytes g.R.Input.can_give o c.args.files.items
+    c.in_err-refuse_faulty.field-0.0) (sym any)
+    (subst (λ fs. AreRefusedByRule g.F.ReadAt.fails g.F.ReadAt.bytes g.R.Input.can_give Any fs c.in_err-refuse_faulty.field-0.0)
+    c.as_slice-then-not-can_be_cut_back.ensures.value c.in_err-refuse_faulty.ensures.refused)))
 
-pub returns-in_err-clear-clause-refused : goal.returns-in_err-clear-clause-refused
-returns-in_err-clear-clause-refused g c =
-    let begins : c.may_begin_anew-can_begin_anew.result ≡ true = rw c.in-Some.is at c.in_ok-again.ensures.wanted in
-    let may = c.turns.invariant.2 begins in
-    let p = err_from_is_err_and c.from_residual-in_err-clear.result c.from_residual-in_err-clear.ensures.1 in
+pub returns-in_err-opened-clause-refused : goal.returns-in_err-opened-clause-refused
+returns-in_err-opened-clause-refused g c =
+    let p = err_from_is_err_and c.from_residual-in_err-opened.result c.from_residual-in_err-opened.ensures.1 in
     rw (p.1, p.2)
-    (anew_refused g.F.ReadAt.fails g.F.ReadAt.bytes g.R.Input.can_give g.W.Output (g.W.ClearOutput.can_clear c.args.out.now) c.args.job
-    c.args.files.items
-    (subst (All (EndsByRule g.F.ReadAt.bytes)) c.as_slice.ensures.value c.in_ok-refuse_cut.ensures.ended)
-    c.args.out.now c.clear.new.out c.in_err-clear.field-0.0 may.0 may.1
-    (inr (inr (subst (λ n. IsOutputFault n c.in_err-clear.field-0.0)
-    (c.len.ensures ∙ sym c.as_slice-in-turns-4.ensures.len ∙ ap length c.as_slice-in-turns-4.ensures.value)
-    c.in_err-clear.ensures.fault))))
+    (refused_first g.F.ReadAt.fails g.F.ReadAt.bytes g.R.Input.can_give g.W.Output c.args.job c.args.files.items c.args.out.now
+    (g.W.CutBackOutput.can_cut c.args.out.now) c.in_err-opened.field-0.0 (inl c.in_err-opened.ensures.memory))
 
-pub turns-preserved : goal.turns-preserved
-turns-preserved g c =
-    let begins : c.may_begin_anew-can_begin_anew.result ≡ true = rw c.in-Some.is at c.in_ok-again.ensures.wanted in
-    let may = c.turns.invariant.2 begins in
-    let can = g.W.ClearOutput.can_clear c.args.out.now in
-    let fits = subst (λ fs. FilesFit g.F.ReadAt.bytes Any fs c.in_ok-ways-2.ways.items) c.as_slice-in-turns-4.ensures.value
-    c.in_ok-ways-2.ensures.fit in (
-      subst (λ (o : Order). FilesFit g.F.ReadAt.bytes o c.args.files.items c.in_ok-ways-2.ways.items) (sym may.1) fits,
-      starts_anew g.W.Output can c.args.job.order c.args.out.now c.turns.out c.run_turn-outcome.new.out c.clear.new.out c.turns.invariant.1
-          may.0 may.1 c.run_turn-outcome.ensures.kept c.in_ok-clear.ensures.cleared,
-      c.turns.invariant.2,
-    )
-
-pub returns-in_err-settled-clause-refused : goal.returns-in_err-settled-clause-refused
-returns-in_err-settled-clause-refused g c =
-    let p = err_from_is_err_and c.from_residual-in_err-settled.result c.from_residual-in_err-settled.ensures.1 in
-    rw (p.1, p.2)
-    (refused_before g.F.ReadAt.fails g.F.ReadAt.bytes g.R.Input.can_give g.W.Output (g.W.ClearOutput.can_clear c.args.out.now) c.args.job
-    c.args.files.items
-    (subst (All (EndsByRule g.F.ReadAt.bytes)) c.as_slice.ensures.value c.in_ok-refuse_cut.ensures.ended)
-    c.args.out.now c.turns.out c.in_err-settled.field-0.0 c.turns.invariant.1
-    (subst (λ fs. AreRefused g.F.ReadAt.fails g.F.ReadAt.bytes g.R.Input.can_give c.args.job.order fs c.in_err-settled.field-0.0)
-    c.as_slice-3.ensures.value c.in_err-settled.ensures.refused))
-
-pub returns-in_err-settled-clause-kept : goal.returns-in_err-settled-clause-kept
-returns-in_err-settled-clause-kept g c =
-    let can = g.W.ClearOutput.can_clear c.args.out.now in
-    keeps g.W.Output can c.args.job.order c.args.out.now c.turns.out c.turns.out c.turns.invariant.1
-    (grew_nothing g.W.Output can c.args.job.order c.args.out.now c.turns.out)
+pub run_any_order-requires : goal.run_any_order-requires
+run_any_order-requires g c =
+    let any = c.is_any.ensures.0 c.if-not-is_any.false in
+    record {
+      any = any;
+      fit = subst (λ (o : Order). FilesFit g.F.ReadAt.bytes o c.args.files.items c.in_ok-ways.ways.items) any
+          (subst (λ fs. FilesFit g.F.ReadAt.bytes c.args.job.order fs c.in_ok-ways.ways.items) c.as_slice.ensures.value
+          c.in_ok-ways.ensures.fit);
+      sound = λ cannot. elim c.if-not-can_be_cut_back.branch [
+        | then-not-can_be_cut_back+in_ok-refuse_faulty w ↦ subst (All (AreSound g.F.ReadAt.bytes))
+            w.as_slice-then-not-can_be_cut_back.ensures.value w.in_ok-refuse_faulty.ensures.sound
+        | else-not-can_be_cut_back w ↦
+            absurd (false≢true (sym cannot ∙ sym c.can_be_cut_back.ensures ∙ w.if-not-can_be_cut_back.false))
+      ];
+    }
 
 pub returns-clause-refused : goal.returns-clause-refused
 returns-clause-refused g c =
-    last_refused g.F.ReadAt.fails g.F.ReadAt.bytes g.R.Input.can_give g.W.Output (g.W.ClearOutput.can_clear c.args.out.now) c.args.job
-    c.args.files.items
-    (subst (All (EndsByRule g.F.ReadAt.bytes)) c.as_slice.ensures.value c.in_ok-refuse_cut.ensures.ended)
-    c.args.out.now
-    c.as_slice-4.result.now c.turns.out c.run_turn.new.out c.run_turn.result c.turns.invariant.1
-    (subst AreSettled (sym c.as_slice-4.ensures.value) c.in_ok-settled.ensures.settled) c.run_turn.ensures.refused
+    let any = c.is_any.ensures.0 c.if-not-is_any.false in
+    let opened = c.as_slice-in-Err.ensures.value ∙ c.in_ok-opened.ensures.opened ∙ ap (map opened_of) c.as_slice-3.ensures.value in
+    first_refuses g.F.ReadAt.fails g.F.ReadAt.bytes g.R.Input.can_give g.W.Output (g.W.CutBackOutput.can_cut c.args.out.now) c.args.job
+    c.args.files.items c.args.out.now c.run_any_order.new.out any
+    (λ cannot. elim c.if-not-can_be_cut_back.branch [
+      | then-not-can_be_cut_back+in_ok-refuse_faulty w ↦ subst (All (AreSound g.F.ReadAt.bytes))
+          w.as_slice-then-not-can_be_cut_back.ensures.value w.in_ok-refuse_faulty.ensures.sound
+      | else-not-can_be_cut_back w ↦
+          absurd (false≢true (sym cannot ∙ sym c.can_be_cut_back.ensures ∙ w.if-not-can_be_cut_back.false))
+    ])
+    c.in-Err.fault c.first_fault.result (λ memory. c.first_fault.ensures.memory memory)
+    (subst (λ xs. FindsFirst g.F.ReadAt.fails g.F.ReadAt.bytes (slice_get xs c.in-Err.fault.input) c.in-Err.fault c.first_fault.result)
+    opened c.first_fault.ensures.first)
+    c.in-Err.ensures.refused
+
+pub run_turn-requires : goal.run_turn-requires
+run_turn-requires g c = record {
+  fit = subst (FilesFit g.F.ReadAt.bytes c.args.job.order c.args.files.items) (sym c.as_slice-then-not-is_any.ensures.value)
+      (subst (λ fs. FilesFit g.F.ReadAt.bytes c.args.job.order fs c.in_ok-ways.ways.items) c.as_slice.ensures.value
+      c.in_ok-ways.ensures.fit);
+}
+
+pub returns-then-not-is_any-clause-refused : goal.returns-then-not-is_any-clause-refused
+returns-then-not-is_any-clause-refused g c =
+    let sorted = not_any c.args.job.order (λ any. false≢true (sym c.if-not-is_any.true ∙ c.is_any.ensures.1 any)) in
+    let fits = subst (FilesFit g.F.ReadAt.bytes c.args.job.order c.args.files.items) (sym c.as_slice-then-not-is_any.ensures.value)
+    (subst (λ fs. FilesFit g.F.ReadAt.bytes c.args.job.order fs c.in_ok-ways.ways.items) c.as_slice.ensures.value
+    c.in_ok-ways.ensures.fit) in
+    let ended = subst (All (EndsByRule g.F.ReadAt.bytes)) c.as_slice-2.ensures.value c.in_ok-refuse_cut.ensures.ended in
+    IfErr-weaker c.run_turn.result _ _
+    (λ fault refused. sorted_refused g.F.ReadAt.fails g.F.ReadAt.bytes g.R.Input.can_give g.W.Output c.args.job c.args.files.items
+    c.args.out.now (g.W.CutBackOutput.can_cut c.args.out.now) c.as_slice-then-not-is_any.result.now c.run_turn.new.out fault sorted
+    fits ended refused)
+    c.run_turn.ensures.refused

@@ -5,8 +5,8 @@ use Rattle.std.specs.List.{All}
 use Rattle.osm_files.specs.EndRule.{lacks_its_end, rule_of_file}
 use Rattle.osm_files.proofs.SinkLaws.{front_at}
 use Rattle.osm_mirror.specs.run.ShardRefusal.{EndByRule}
-use Rattle.osm_mirror.proofs.run_laws.FileEndLaws.{all_more, among_shard}
-use Rattle.osm_mirror.proofs.run_laws.WayLaws.{get_slice}
+use Rattle.osm_mirror.proofs.run_laws.FileEndLaws.{among_shard}
+use Rattle.osm_mirror.proofs.run_laws.WayLaws.{all_more, get_slice}
 use Rattle.osm_mirror.proofs.run.shard_job.refuse_cut_files.Goals as goal
 
 pub files-preserved : goal.files-preserved

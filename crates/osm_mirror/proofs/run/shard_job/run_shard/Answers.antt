@@ -30,8 +30,9 @@ returns-in-Err-clause-refused g c =
     let job = c.args.job in
     let span = shard_span job.shard.number job.shard.count in
     let change = change_of g.W.Output c.args.out.now c.args.out.now in
-    shard_span_refused known fails g.W.Output job c.args.files.now c.args.out.now c.args.out.now _ c.in_ok-refuse_cut_files.ensures.ended
-    (first_refuses known fails job.selection job.format span span c.args.files.now change c.in-Err.fault _ (λ all held have holds. refl)
+    shard_span_refused known fails g.W.Output job c.args.files.now c.args.out.now c.args.out.now _
+    (first_refuses known fails job.end job.selection job.format span span c.args.files.now change c.in-Err.fault _
+    (λ all held have holds. refl)
     c.first_fault.ensures.file c.first_fault.ensures.same
     (nothing_cut known fails job.selection job.format span c.args.files.now change c.in-Err.fault
     (at_first (g.W.Output.holds c.args.out.now)) c.in-Err.ensures.refused))
@@ -42,8 +43,8 @@ returns-in-Err-write_span-clause-refused g c =
     let fails : Bor g.row.F.Denot → Type 0 = λ file. g.F.ReadAt.fails file.now in
     let job = c.args.job in
     shard_span_refused known fails g.W.Output job c.args.files.now c.args.out.now c.write_span.new.out _
-    c.in_ok-refuse_cut_files.ensures.ended
-    (first_refuses known fails job.selection job.format (λ _. c.in-Ok.span) (shard_span job.shard.number job.shard.count) c.args.files.now
+    (first_refuses known fails job.end job.selection job.format (λ _. c.in-Ok.span) (shard_span job.shard.number job.shard.count)
+    c.args.files.now
     (change_of g.W.Output c.args.out.now c.write_span.new.out) c.in-Err-write_span.fault _
     (λ all held have holds. c.in-Ok.ensures.span all held have holds)
     c.first_fault-in-Err-write_span.ensures.file c.first_fault-in-Err-write_span.ensures.same c.in-Err-write_span.ensures.refused)
