@@ -16,11 +16,17 @@ use Rattle.osm_model.specs.Escape.{escape, escape_char, is_raw, is_raw_byte, IsP
 use Rattle.osm_model.proofs.EscapeLaws.{escape_char-raw, length-escape_char-some}
 use Rattle.osm_model.proofs.TextLaws.{text_chars}
 use Rattle.osm_model.proofs.RawLaws.{raw_of_two}
-use Rattle.opl_line.specs.Straight.{AreRaw}
+use Rattle.opl_line.specs.Straight.{AreAppended, AreRaw, IsRun}
 
-two_bytes : (c : ℕ) → 0x80 ≤ c → c < 0x800 → encode c ≡ (192 + c / 64) ∷ (128 + c % 64) ∷ []
+-- the UTF-8 of a character of two bytes
+pub two_bytes : (c : ℕ) → 0x80 ≤ c → c < 0x800 → encode c ≡ (192 + c / 64) ∷ (128 + c % 64) ∷ []
 unfolding encode
 two_bytes c low high = grind (arith, nat_tests)
+
+-- the UTF-8 of a character of three bytes
+pub three_bytes : (c : ℕ) → 0x800 ≤ c → c < 0x1_0000 → encode c ≡ (224 + c / 4096) ∷ (128 + c / 64 % 64) ∷ (128 + c % 64) ∷ []
+unfolding encode
+three_bytes c low high = grind (arith, nat_tests)
 
 -- one raw character
 raw_one : (c : ℕ) (bytes : List ℕ) → is_raw c ≡ true → encode c ≡ bytes → AreRaw bytes
@@ -156,21 +162,63 @@ read_front bytes text end raw e =
     read_raw bytes [] bytes (take end bytes) (take (length bytes - end) (drop end bytes)) text (read_nothing bytes [] refl)
     (raw_bytes (take end bytes) raw) whole e
 
--- an escape after the text that was read is read, too
-pub read_escape : (bytes text rest after now : List ℕ) (c : ℕ) → IsReadTo bytes text rest → rest ≡ escape_char c ++ after →
-    is_text (c ∷ []) ≡ true → now ≡ text ++ chars (encode c) → IsReadTo bytes now after
-read_escape bytes text rest after now c so_far e valid n =
+-- the characters appended after the text that was read are read, too
+pub read_appended : (bytes text rest after now : List ℕ) → IsReadTo bytes text rest → AreAppended rest text now after → IsReadTo bytes now after
+read_appended bytes text rest after now so_far are =
+    read_more bytes text rest are.characters (escape are.characters) after now so_far are.spelled refl are.valid are.appended
+
+-- one character
+pub append_one : (bytes text after now : List ℕ) (c : ℕ) → bytes ≡ escape_char c ++ after → is_text (c ∷ []) ≡ true →
+    now ≡ text ++ chars (encode c) → AreAppended bytes text now after
+append_one bytes text after now c e valid n =
     let scalar_c = (and_parts (scalars (c ∷ [])) (not (has_zero (c ∷ []))) valid).0 in
     let whole : encodes (c ∷ []) ≡ encode c = append-nil (encode c) in
     let same : chars (encode c) ≡ c ∷ [] = text_chars (encode c) (c ∷ []) (c ∷ [], (scalar_c, whole)) (sym whole) in
-    read_more bytes text rest (c ∷ []) (escape_char c) after now so_far e (append-nil (escape_char c)) valid (n ∙ ap (λ t. text ++ t) same)
+    record {
+      characters = c ∷ [];
+      spelled = e ∙ ap (λ t. t ++ after) (sym (append-nil (escape_char c)));
+      appended = n ∙ ap (λ t. text ++ t) same;
+      valid = valid;
+    }
 
--- after an escape fewer bytes are left than before
-pub shorter : (rest raw after next : List ℕ) (c : ℕ) → rest ≡ raw ++ after → after ≡ escape_char c ++ next → length next < length rest
-shorter rest raw after next c e f = omega (
-  arith,
-  length-escape_char-some c,
-  ap length e ∙ length-append raw after,
-  ap length f
-      ∙ length-append (escape_char c) next,
-)
+-- no escape
+pub run_none : (bytes : List ℕ) → IsRun bytes [] bytes
+run_none bytes = record { characters = []; spelled = refl; encoded = refl; valid = refl }
+
+-- one more escape
+pub run_more : (bytes run rest after now : List ℕ) (c : ℕ) → IsRun bytes run rest → rest ≡ escape_char c ++ after →
+    is_text (c ∷ []) ≡ true → now ≡ run ++ encode c → IsRun bytes now after
+run_more bytes run rest after now c so_far e valid n =
+    let cs = so_far.characters in
+    let more : escape cs ++ escape_char c ≡ escape (cs ++ c ∷ []) =
+    ap (λ t. escape cs ++ t) (sym (append-nil (escape_char c))) ∙ sym (flat_map-append escape_char cs (c ∷ [])) in
+    let encoded : encodes cs ++ encode c ≡ encodes (cs ++ c ∷ []) =
+    ap (λ t. encodes cs ++ t) (sym (append-nil (encode c))) ∙ sym (encodes-append cs (c ∷ [])) in
+    record {
+      characters = cs ++ c ∷ [];
+      spelled =
+          so_far.spelled ∙ ap (λ t. escape cs ++ t) e ∙ sym (append_assoc (escape cs) (escape_char c) after) ∙ ap (λ t. t ++ after) more;
+      encoded = n ∙ ap (λ t. t ++ encode c) so_far.encoded ∙ encoded;
+      valid = text_append cs (c ∷ []) so_far.valid valid;
+    }
+
+-- The characters of a run are UTF-8.
+pub run_utf8 : (bytes run rest : List ℕ) → IsRun bytes run rest → IsUtf8 run
+run_utf8 bytes run rest is =
+    let both = and_parts (scalars is.characters) (not (has_zero is.characters)) is.valid in
+    (is.characters, (both.0, sym is.encoded))
+
+-- the characters of a run after a text
+pub append_run : (bytes text run after now : List ℕ) → IsRun bytes run after → now ≡ text ++ chars run → AreAppended bytes text now after
+append_run bytes text run after now is n =
+    let same : chars run ≡ is.characters = text_chars run is.characters (run_utf8 bytes run after is) is.encoded in
+    record {
+      characters = is.characters;
+      spelled = is.spelled;
+      appended = n ∙ ap (λ t. text ++ t) same;
+      valid = is.valid;
+    }
+
+-- one escape makes the rest shorter
+pub shorter_by_one : (bytes after : List ℕ) (c : ℕ) → bytes ≡ escape_char c ++ after → length after < length bytes
+shorter_by_one bytes after c e = omega (arith, length-escape_char-some c, ap length e ∙ length-append (escape_char c) after)

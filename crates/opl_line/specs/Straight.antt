@@ -11,7 +11,7 @@ use Rattle.osm_model.specs.Text.{is_text}
 use Rattle.osm_model.specs.New.{is_number}
 use Rattle.opl_line.specs.AuthorFields.{author_text, IsAuthorInRange}
 use Rattle.osm_model.specs.Decimal.{number_text, integer_text}
-use Rattle.osm_model.specs.Escape.{is_raw}
+use Rattle.osm_model.specs.Escape.{is_raw, escape}
 use Rattle.osm_model.specs.Joined.{join_with}
 use Rattle.osm_model.specs.Data.{kind_of, is_deleted, tags_of, ids_of, texts_of}
 use Rattle.osm_model.specs.Line.{list_text, tag_text, kind_fields}
@@ -21,6 +21,20 @@ pub record AreRaw (bytes : List ℕ) : Type 0 where
   pub characters : List ℕ
   pub spelled : bytes ≡ encode_utf8_all characters
   pub raw : list_all is_raw characters ≡ true
+
+-- `bytes` begins with the escapes of characters, whose UTF-8 is `utf8`, and ends with `rest`
+pub record IsRun (bytes utf8 rest : List ℕ) : Type 0 where
+  pub characters : List ℕ
+  pub spelled : bytes ≡ escape characters ++ rest
+  pub encoded : utf8 ≡ encode_utf8_all characters
+  pub valid : is_text characters ≡ true
+
+-- `bytes` begins with the escapes of characters, which are appended to the text `old`, and ends with `rest`
+pub record AreAppended (bytes old now rest : List ℕ) : Type 0 where
+  pub characters : List ℕ
+  pub spelled : bytes ≡ escape characters ++ rest
+  pub appended : now ≡ old ++ characters
+  pub valid : is_text characters ≡ true
 
 -- V for visible, D for deleted
 abbrev pub deleted_text : Bool → List ℕ

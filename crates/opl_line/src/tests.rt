@@ -226,7 +226,10 @@ n1 v1 u%d800% => BadText
 n1 v1 u%110000% => BadText
 n1 v1 u%000000041% => BadText
 n1 v1 u%+41% => BadText
-n1 v1 u%4g% => BadText";
+n1 v1 u%4g% => BadText
+n1 v1 u%4eac%%4eag% => BadText
+n1 v1 u%4eac%%dfff% => BadText
+n1 v1 u%4eac%%4eac => BadText";
     check_rows(&rt, rt.alloc(), rows)
 }
 

@@ -3,12 +3,14 @@ use Rattle.std.proofs.Common.{◌≡◌, ◌≢◌, ℕ, ◌+◌, ◌/◌, ◌%�
 use Rattle.std.proofs.Common.{arith, append_assoc, inl}
 use Rattle.std.proofs.lemmas.Bool.Decides.{nat_tests}
 use Rattle.std.proofs.lemmas.Bool.{true≢false}
-use Rattle.std.proofs.lemmas.List.{append-nil}
+use Rattle.std.proofs.Common.{◌-◌, ◌*◌, get_or, take, drop}
+use Rattle.std.proofs.lemmas.List.{append-nil, take_rest}
 use Rattle.std.proofs.lemmas.Str.{encode_same, encode_ascii}
 use lib.Utf8.{encode}
 use Rattle.osm_model.specs.Numeral.{numeral, pad_zeros}
 use Rattle.osm_model.specs.Escape.{is_raw, escape_width, code_escape, escape_char, escape}
-use Rattle.osm_model.proofs.NumeralLaws.{padded_injective, padded_lacks}
+use Rattle.std.specs.Char.{digit_char}
+use Rattle.osm_model.proofs.NumeralLaws.{padded_injective, padded_lacks, pad_zeros-step, pad_zeros-digit}
 use Rattle.osm_model.proofs.Separators.{Lacks, IsSeparator, space, comma, equals, at, NoDigit, no_digit-separator, split_same, lacks_append}
 
 raw_percent : (c : ℕ) (us vs : List ℕ) → is_raw c ≡ true → encode c ++ us ≡ 37 ∷ vs → ⊥
@@ -174,3 +176,60 @@ escape_char-raw c e = rw e
 pub escape_char-other : (c : ℕ) → is_raw c ≡ false → escape_char c ≡ code_escape c
 unfolding escape_char
 escape_char-other c e = rw e
+
+four_padded : (c : ℕ) → c < 0x1_0000 → pad_zeros 4 (numeral 16 c)
+    ≡ digit_char (c / 0x1000) ∷ digit_char (c / 0x100 % 0x10) ∷ digit_char (c / 0x10 % 0x10) ∷ digit_char (c % 0x10) ∷ []
+four_padded c small =
+    let second : c / 16 / 16 % 16 ≡ c / 0x100 % 0x10 = omega arith in
+    let first : c / 16 / 16 / 16 ≡ c / 0x1000 = omega arith in
+    pad_zeros-step 16 2 c (omega arith)
+    ∙ ap (λ t. t ++ digit_char (c % 16) ∷ []) (pad_zeros-step 16 1 (c / 16) (omega arith))
+    ∙ ap (λ t. (t ++ digit_char (c / 16 % 16) ∷ []) ++ digit_char (c % 16) ∷ []) (pad_zeros-step 16 0 (c / 16 / 16) (omega arith))
+    ∙ ap (λ t. ((t ++ digit_char (c / 16 / 16 % 16) ∷ []) ++ digit_char (c / 16 % 16) ∷ []) ++ digit_char (c % 16) ∷ [])
+    (pad_zeros-digit 16 (c / 16 / 16 / 16) (omega arith) (omega arith))
+    ∙ (λ i. digit_char (first i) ∷ digit_char (second i) ∷ digit_char (c / 16 % 16) ∷ digit_char (c % 16) ∷ [])
+
+four_wide : (c : ℕ) → 0x600 ≤ c → escape_width c ≡ 4
+four_wide c low = grind (arith, nat_tests)
+
+four_other : (c : ℕ) → 0x600 ≤ c → is_raw c ≡ false
+four_other c low = grind (arith, nat_tests)
+
+-- the escape of a code point from U+0600 to U+FFFF
+pub four_digits : (c : ℕ) → 0x600 ≤ c → c < 0x1_0000 → escape_char c
+    ≡ 37 ∷ digit_char (c / 0x1000) ∷ digit_char (c / 0x100 % 0x10) ∷ digit_char (c / 0x10 % 0x10) ∷ digit_char (c % 0x10) ∷ 37 ∷ []
+unfolding code_escape
+four_digits c low small =
+    escape_char-other c (four_other c low)
+    ∙ ap (λ width. 37 ∷ (pad_zeros width (numeral 16 c) ++ 37 ∷ [])) (four_wide c low)
+    ∙ ap (λ digits. 37 ∷ (digits ++ 37 ∷ [])) (four_padded c small)
+
+-- the bytes from the first percent sign to the second
+six_bytes : (bytes : List ℕ) → 6 ≤ length bytes → bytes
+    ≡ get_or bytes 0 0 ∷ get_or bytes 1 0 ∷ get_or bytes 2 0 ∷ get_or bytes 3 0 ∷ get_or bytes 4 0 ∷ get_or bytes 5 0
+    ∷ take (length bytes - 6) (drop 6 bytes)
+six_bytes [] more = absurd (omega arith)
+six_bytes (a ∷ []) more = absurd (omega arith)
+six_bytes (a ∷ b ∷ []) more = absurd (omega arith)
+six_bytes (a ∷ b ∷ c ∷ []) more = absurd (omega arith)
+six_bytes (a ∷ b ∷ c ∷ d ∷ []) more = absurd (omega arith)
+six_bytes (a ∷ b ∷ c ∷ d ∷ e ∷ []) more = absurd (omega arith)
+six_bytes (a ∷ b ∷ c ∷ d ∷ e ∷ f ∷ rest) more = ap (λ t. a ∷ b ∷ c ∷ d ∷ e ∷ f ∷ t)
+    (sym (take_rest (a ∷ b ∷ c ∷ d ∷ e ∷ f ∷ rest) 6))
+
+-- Four digits between percent signs are the escape of their number, from U+0600 on.
+pub four_digits_back : (bytes : List ℕ) (a b c d code : ℕ) → 6 ≤ length bytes → (get_or bytes 0 0 ≡ 37) × (get_or bytes 5 0 ≡ 37) →
+    (a < 16) × (get_or bytes 1 0 ≡ digit_char a) → (b < 16) × (get_or bytes 2 0 ≡ digit_char b) →
+    (c < 16) × (get_or bytes 3 0 ≡ digit_char c) → (d < 16) × (get_or bytes 4 0 ≡ digit_char d) →
+    code ≡ 0x1000 * a + 0x100 * b + 0x10 * c + d → 0x600 ≤ code → code < 0x1_0000 →
+    bytes ≡ escape_char code ++ take (length bytes - 6) (drop 6 bytes)
+four_digits_back bytes a b c d code more ends first second third fourth is low small =
+    let one : a ≡ code / 0x1000 = omega (arith, first.0, second.0, third.0, fourth.0) in
+    let two : b ≡ code / 0x100 % 0x10 = omega (arith, first.0, second.0, third.0, fourth.0) in
+    let three : c ≡ code / 0x10 % 0x10 = omega (arith, first.0, second.0, third.0, fourth.0) in
+    let four : d ≡ code % 0x10 = omega (arith, first.0, second.0, third.0, fourth.0) in
+    let rest = take (length bytes - 6) (drop 6 bytes) in
+    six_bytes bytes more
+    ∙ (λ i. ends.0 i ∷ (first.1 ∙ ap digit_char one) i ∷ (second.1 ∙ ap digit_char two) i ∷ (third.1 ∙ ap digit_char three) i
+    ∷ (fourth.1 ∙ ap digit_char four) i ∷ ends.1 i ∷ rest)
+    ∙ ap (λ t. t ++ rest) (sym (four_digits code low small))

@@ -22,5 +22,6 @@ pub mod AppendLaws
 pub mod ExtendsLaws
 pub mod KindLaws
 pub mod PairLaws
+pub mod HexLaws
 pub mod PairwiseLaws
 mod CompareLaws

@@ -6,7 +6,8 @@
 //! Otherwise: always used. The stretches are the fields before the user name, each reference or few of them, the object
 //! of a member and a location. Texts are appended from left to right.
 //! Compared by: `both_writers_write_one_line` (opl_line).
-ghost use Rattle.std.specs.Prelude.{◌≡◌, ◌++◌, ◌∷◌, ◌≤◌, ℕ, List, codes, length, drop, OnOk};
+ghost use Rattle.std.specs.Prelude.{◌≡◌, ◌++◌, ◌∷◌, ◌≤◌, ℕ, List, codes, length, drop, IfOk, OnOk};
+ghost use Rattle.std.specs.Str.{chars};
 ghost use Rattle.osm_model.specs.Joined.{join_with};
 ghost use Rattle.osm_model.specs.Escape.{escape, escape_char};
 ghost use Rattle.osm_model.specs.Line.{list_text, tag_text, reference_text, member_text, kind_fields, line};
@@ -14,7 +15,7 @@ ghost use Rattle.osm_model.specs.Append.{head_text, location_text};
 ghost use Rattle.osm_model.specs.Cursor.{more_text};
 ghost use Rattle.osm_model.specs.Extends.{Extends};
 
-use crate::escape::raw_length;
+use crate::escape::{four_digit_escape, has_four_digits, raw_length};
 use crate::put::{ESCAPE_BYTES, put, put_byte, put_escaped, put_head, put_integer, put_location};
 use crate::{Body, Member, Memory, Tag, Text, Version};
 
@@ -79,11 +80,34 @@ fn append_characters(text: &Text, out: &mut Vec<u8>) -> Result<(), Memory>
     'characters: loop {
         let (plain, other) = rest.split_at(raw_length(rest));
         out.extend_from_slice(plain.as_bytes())?;
-        let mut characters = other.chars();
+        let after = append_four_digit_run(other, out)?;
+        let mut characters = after.chars();
         let Some(first) = characters.next() else {
             return Ok(());
         };
         append_escaped(first, out)?;
+        rest = characters.as_str();
+    }
+}
+
+/// Appends the characters at the front of `text` whose escapes have four digits, and returns the characters after them.
+fn append_four_digit_run<'a>(text: &'a str, out: &mut Vec<u8>) -> Result<&'a str, Memory>
+    ensures appended { IfOk result (λ rest. out.old.items ++ escape (chars text.now)
+        ≡ out.new.items ++ escape (chars rest.now)) }
+    ensures shorter { IfOk result (λ rest. length rest.now ≤ length text.now) }
+    ensures kept { Extends out.old.items out.new.items }
+{
+    let mut rest = text;
+    'escapes: loop {
+        let mut characters = rest.chars();
+        let Some(first) = characters.next() else {
+            return Ok(rest);
+        };
+        let code = u32::from(first);
+        if !has_four_digits(code) {
+            return Ok(rest);
+        }
+        out.extend_from_slice(&four_digit_escape(code))?;
         rest = characters.as_str();
     }
 }

@@ -1,6 +1,7 @@
 //! The characters of a text in a line: raw ones, and escapes.
 ghost use Rattle.std.specs.Prelude.{◌≡◌, ◌++◌, ◌<◌, ◌≤◌, if◌then◌else◌, ◌+◌, length, take, drop};
 ghost use Rattle.std.specs.Str.{chars, IsUtf8, IsCharBoundary};
+ghost use Rattle.std.specs.Bool.{OnTrue};
 ghost use Rattle.std.specs.Char.{digit_char};
 ghost use Rattle.std.specs.Int.{is_in_range};
 ghost use Rattle.osm_model.specs.Escape as spec;
@@ -21,17 +22,41 @@ pub(crate) fn is_raw(c: char) -> bool
     )
 }
 
+/// The hexadecimal digits, in lower case.
+static HEX_DIGITS: [u8; 16] = *b"0123456789abcdef";
+
 /// The hexadecimal digit of a number below 16, in lower case.
+#[inline(always)]
 pub(crate) fn hex_digit(number: u32) -> u8
     requires { number < 16 }
     ensures { result ≡ digit_char number }
 {
-    let digit = number as u8;
-    if digit < 10 {
-        b'0' + digit
-    } else {
-        b'a' - 10 + digit
-    }
+    HEX_DIGITS[number as usize]
+}
+
+/// Whether a code point is written as an escape of four digits. All code points with four digits are, except those of
+/// raw characters.
+#[inline(always)]
+pub(crate) fn has_four_digits(code: u32) -> bool
+    ensures { OnTrue result ((0x600 ≤ code) × (code < 0x1_0000)) }
+{
+    matches!(code, 0x600..=0xFFFF)
+}
+
+/// The escape of a code point that is written with four digits.
+#[inline(always)]
+pub(crate) fn four_digit_escape(code: u32) -> [u8; 6]
+    requires { (0x600 ≤ code) × (code < 0x1_0000) }
+    ensures { result ≡ spec.escape_char code }
+{
+    [
+        b'%',
+        hex_digit(code / 0x1000),
+        hex_digit(code / 0x100 % 0x10),
+        hex_digit(code / 0x10 % 0x10),
+        hex_digit(code % 0x10),
+        b'%',
+    ]
 }
 
 /// The least number of digits in the escape of a code point.

@@ -29,7 +29,7 @@ mod text;
 mod version;
 
 pub use body::Body;
-pub use escaped::strip_escaped;
+pub use escaped::{split_four_digits, strip_escaped};
 pub use fault::ValueFault;
 pub use history::History;
 pub use id::is_id;

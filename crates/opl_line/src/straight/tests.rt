@@ -63,7 +63,11 @@ n1 v1 dV c5 t2014-05-06T07:08:09Z i5 u%20% T x8.6 y49.1
 n1 v2 dV c9 t2015-01-02T03:04:05Z i6 u¡¢¬®¿ÀÿĀͿ֐׿ Tname=Улица%20%Ленина%20%7,ä%3d%b=c%2c%ö x8.6 y49
 n1 v3 dV c9 t2015-01-02T03:04:05Z i6 u%0600%%fffd%%1f600%%10ffff% Tname=%1e9e%%a0%%ad%%07%%7f% x8.6 y49
 w4 v1 dV c0 t i0 u Tname=a%20%name%20%that%20%takes%20%memory%20%of%20%its%20%own,note=%25%%25%%40% Nn1
-r2 v2 dV c0 t i0 u T Mw4@%20%,n7@end%20%ß,r-1@%0904%";
+r2 v2 dV c0 t i0 u T Mw4@%20%,n7@end%20%ß,r-1@%0904%
+n2 v1 dV c9 t2015-01-02T03:04:05Z i6 u%0600%%07ff%%0800%%d7ff%%e000%%ffff% T x8.6 y49
+n2 v2 dV c9 t2015-01-02T03:04:05Z i6 u%0645%a%062f%É%4eac%%20%%1f600%%4eac% Tname=%4eac%-%90fd%,to=%2e80% x8.6 y49
+w5 v1 dV c0 t i0 u T%4eac%=%9999%%4e00%%4e01%%4e02%%4e03%%4e04%%4e05%%4e06%%4e07%%4e08%%4e09%%4e0a%%4e0b%%4e0c%%4e0d%\
+%4e0e%%4e0f%%4e10%%4e11%%4e12%%4e13%%4e14%%4e15%%4e16%%4e17% Nn1";
     let mut reader = LineReader::new(alloc);
     for line in lines.lines() {
         assert!(&rt; is_straight(alloc, line));
@@ -105,6 +109,9 @@ n1 v1 dV c0 t i0 u T x1 y2  => n1 v1 dV c0 t i0 u T x1 y2
 n1\tv1 dV c0 t i0 u T x1 y2 => n1 v1 dV c0 t i0 u T x1 y2
 n1 v1 dD c0 t i0 u Ta=1 x1 y2 => n1 v1 dD c0 t i0 u T x y
 n1 v1 dV c1 t2014-05-06T07:08:09Z i5 u%41% T x1 y2 => n1 v1 dV c1 t2014-05-06T07:08:09Z i5 uA T x1 y2
+n1 v1 dV c1 t2014-05-06T07:08:09Z i5 u%05d0% T x1 y2 => n1 v1 dV c1 t2014-05-06T07:08:09Z i5 u\u{5d0} T x1 y2
+n1 v1 dV c1 t2014-05-06T07:08:09Z i5 u%4eac%%4EAC% T x1 y2 => n1 v1 dV c1 t2014-05-06T07:08:09Z i5 u%4eac%%4eac% T x1 y2
+n1 v1 dV c1 t2014-05-06T07:08:09Z i5 u%04eac% T x1 y2 => n1 v1 dV c1 t2014-05-06T07:08:09Z i5 u%4eac% T x1 y2
 w1 v1 dV c0 t i0 u T Nn1,n02 => w1 v1 dV c0 t i0 u T Nn1,n2
 r1 v1 dV c0 t i0 u T Mn1@a@b => r1 v1 dV c0 t i0 u T Mn1@a%40%b
 w1 v1 dV c0 t i0 u Ta=%2C% N => w1 v1 dV c0 t i0 u Ta=%2c% N

@@ -1,21 +1,25 @@
 //! Texts in their canonical form: characters that the writer leaves raw, and escapes as the writer spells them.
-ghost use Rattle.std.specs.Prelude.{◌≡◌, ◌++◌, ◌∷◌, [], ◌≤◌, not, length, take, true, IfSome};
+ghost use Rattle.std.specs.Prelude.{◌≡◌, ◌++◌, ◌∷◌, [], ◌+◌, ◌<◌, ◌≤◌, not, length, take, true, IfSome};
+ghost use Rattle.std.specs.Char.{encode_utf8};
 ghost use Rattle.std.specs.Bool.{OnTrue};
 ghost use Rattle.std.specs.List.{list_all};
 ghost use Rattle.osm_model.specs.Text.{is_text};
 ghost use Rattle.osm_model.specs.Escape.{escape, escape_char, is_raw_byte};
-ghost use Rattle.opl_line.specs.Straight.{AreRaw};
+ghost use Rattle.opl_line.specs.Straight.{AreAppended, AreRaw, IsRun};
 
 use crate::bytes::cut::Delimiter;
 use crate::bytes::scan::{ByteClass, find};
 use crate::escape::scalar_of;
-use osm_model::{Text, strip_escaped};
+use osm_model::{Text, split_four_digits, strip_escaped};
 use std::alloc::Global;
 use std::simd::prelude::*;
 use std::str;
 
 /// The number of bytes that one step compares.
 const TEXT_LANES: usize = 16;
+
+/// The most bytes of the characters that are decoded in one run of escapes.
+const RUN_BYTES: usize = 64;
 
 /// A text in its canonical form, and the bytes after it. `None` for another form, and when out of memory.
 #[inline(always)]
@@ -104,16 +108,33 @@ fn decode_text(alloc: Global, bytes: &[u8]) -> Option<(Text, &[u8])>
         if after.is_empty() || after[0] != b'%' {
             return Some((text, after));
         }
-        let (character, next) = parse_escape(after)?;
-        let mut buffer = [0; 4];
-        if text
-            .push_str(alloc, character.encode_utf8(&mut buffer))
-            .is_err()
-        {
+        rest = push_escapes(alloc, &mut text, after)?;
+    }
+}
+
+/// Appends the characters of the escapes that `bytes` begins with, or of the first of them, to `text`. Returns the
+/// bytes after them. `None` for another form, and when out of memory.
+fn push_escapes<'a>(alloc: Global, text: &mut Text, bytes: &'a [u8]) -> Option<&'a [u8]>
+    ensures read { IfSome result (λ rest. AreAppended bytes.now text.old text.new rest.now) }
+    ensures shorter { IfSome result (λ rest. length rest.now < length bytes.now) }
+{
+    let mut buffer = [0; RUN_BYTES];
+    let (count, after) = decode_run(bytes, &mut buffer);
+    if count > 0 {
+        // SAFETY: these bytes are the UTF-8 of characters.
+        let run = unsafe { str::from_utf8_unchecked(&buffer[..count]) };
+        if text.push_str(alloc, run).is_err() {
             return None;
         }
-        rest = next;
+        return Some(after);
     }
+    let (character, after) = parse_escape(bytes)?;
+    let mut buffer = [0; 4];
+    let character = character.encode_utf8(&mut buffer);
+    if text.push_str(alloc, character).is_err() {
+        return None;
+    }
+    Some(after)
 }
 
 /// The raw characters that a text begins with, and the bytes after them.
@@ -162,6 +183,59 @@ fn is_raw_pair(lead: u8, next: u8) -> bool
         0xC3..=0xD7 => matches!(next, 0x80..=0xBF),
         _ => false,
     }
+}
+
+/// Decodes the escapes of four digits that a text begins with, or the first of them, and puts their characters at the
+/// front of `buffer`. Returns the number of bytes of the characters, and the bytes after the escapes.
+fn decode_run<'a>(text: &'a [u8], buffer: &mut [u8; RUN_BYTES]) -> (usize, &'a [u8])
+    ensures within { result.0 ≤ length buffer.new }
+    ensures run { IsRun text.now (take result.0 buffer.new) result.1.now }
+    ensures shorter { 0 < result.0 → length result.1.now < length text.now }
+{
+    let mut count = 0;
+    let mut rest = text;
+    'escapes: while count + 3 <= RUN_BYTES {
+        let Some((character, next)) = split_four_digits(rest) else {
+            return (count, rest);
+        };
+        count = put_character(buffer, count, character);
+        rest = next;
+    }
+    (count, rest)
+}
+
+/// Puts a character from U+0600 to U+FFFF into `buffer` after the first `count` bytes. Returns the number of bytes up
+/// to its end.
+#[inline(always)]
+fn put_character(buffer: &mut [u8], count: usize, character: char) -> usize
+    requires wide { (0x600 ≤ character) × (character < 0x1_0000) }
+    requires fits { count + 3 ≤ length buffer.old }
+    ensures appended { take result buffer.new ≡ take count buffer.old ++ encode_utf8 character }
+    ensures few { result ≤ count + 3 }
+    ensures some { count < result }
+    ensures size { length buffer.new ≡ length buffer.old }
+{
+    let code = u32::from(character);
+    let last = 0x80 + (code % 0x40) as u8;
+    if code < 0x800 {
+        let end = put_byte(buffer, count, 0xC0 + (code / 0x40) as u8);
+        return put_byte(buffer, end, last);
+    }
+    let end = put_byte(buffer, count, 0xE0 + (code / 0x1000) as u8);
+    let end = put_byte(buffer, end, 0x80 + (code / 0x40 % 0x40) as u8);
+    put_byte(buffer, end, last)
+}
+
+/// Puts a byte into `buffer` after the first `count` bytes.
+#[inline(always)]
+fn put_byte(buffer: &mut [u8], count: usize, byte: u8) -> usize
+    requires fits { count < length buffer.old }
+    ensures appended { take result buffer.new ≡ take count buffer.old ++ byte ∷ [] }
+    ensures end { result ≡ count + 1 }
+    ensures size { length buffer.new ≡ length buffer.old }
+{
+    buffer[count] = byte;
+    count + 1
 }
 
 /// The character of the escape that a text begins with, and the bytes after it.

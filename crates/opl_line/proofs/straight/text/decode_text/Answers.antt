@@ -1,7 +1,5 @@
-use Rattle.std.proofs.Common.{◌≡◌, ◌++◌, rules}
-use Rattle.std.specs.Str.{chars}
-use Rattle.std.specs.Char.{encode_utf8}
-use Rattle.opl_line.proofs.StraightTextLaws.{IsReadTo, read_raw, read_escape, shorter}
+use Rattle.std.proofs.Common.{length, length-append, ap, ◌∙◌, arith, rules}
+use Rattle.opl_line.proofs.StraightTextLaws.{IsReadTo, read_raw, read_appended}
 use Rattle.opl_line.proofs.straight.text.decode_text.Goals as goal
 
 pub returns-then-is_empty-clause-text : goal.returns-then-is_empty-clause-text
@@ -21,8 +19,8 @@ returns-then-is_empty-clause-valid c =
 pub escapes-smaller : goal.escapes-smaller
 escapes-smaller c =
     let parts = c.split_raw.result in
-    shorter c.escapes.rest.now parts.0.now parts.1.now c.in_ok-character.next.now c.in_ok-character.character c.split_raw.ensures.text
-    c.in_ok-character.ensures.text
+    let front = ap length c.split_raw.ensures.text ∙ length-append parts.0.now parts.1.now in
+    omega (arith, front, c.in_ok-rest.ensures.shorter)
 
 pub escapes-preserved : goal.escapes-preserved
 escapes-preserved c =
@@ -31,6 +29,5 @@ escapes-preserved c =
     let raw : IsReadTo c.args.bytes.now text parts.1.now =
     read_raw c.args.bytes.now c.escapes.text c.escapes.rest.now parts.0.now parts.1.now text c.escapes.invariant c.split_raw.ensures.raw
     c.split_raw.ensures.text (search rules) in
-    let more : c.push_str-in-escapes.new.self ≡ text ++ chars (encode_utf8 c.in_ok-character.character) = search rules in
-    read_escape c.args.bytes.now text parts.1.now c.in_ok-character.next.now c.push_str-in-escapes.new.self c.in_ok-character.character raw
-    c.in_ok-character.ensures.text c.in_ok-character.ensures.valid more
+    read_appended c.args.bytes.now text parts.1.now c.in_ok-rest.rest.now c.push_escapes.new.text raw
+    c.in_ok-rest.ensures.read
