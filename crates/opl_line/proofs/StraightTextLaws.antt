@@ -163,7 +163,8 @@ read_front bytes text end raw e =
     (raw_bytes (take end bytes) raw) whole e
 
 -- the characters appended after the text that was read are read, too
-pub read_appended : (bytes text rest after now : List ℕ) → IsReadTo bytes text rest → AreAppended rest text now after → IsReadTo bytes now after
+pub read_appended : (bytes text rest after now : List ℕ) → IsReadTo bytes text rest → AreAppended rest text now after →
+    IsReadTo bytes now after
 read_appended bytes text rest after now so_far are =
     read_more bytes text rest are.characters (escape are.characters) after now so_far are.spelled refl are.valid are.appended
 
