@@ -30,3 +30,4 @@ pub mod WrittenBodies
 pub mod WrittenSets
 pub mod WrittenLists
 pub mod ShortestLaws
+pub mod RawByteLaws

@@ -3,6 +3,7 @@ pub(crate) mod base;
 pub(crate) mod body;
 pub(crate) mod decoder;
 pub(crate) mod number;
+pub(crate) mod raw;
 pub(crate) mod segment;
 pub(crate) mod strings;
 pub(crate) mod table;

@@ -259,7 +259,6 @@ impl Segment {
         ensures shorter { IfOk result (λ rest. length rest.now < length bytes.now) }
     {
         let (spelled, rest) = read_spelled(Form::Pair, bytes)?;
-        self.table.store(&spelled)?;
         self.table.add_tag(&spelled, tags)?;
         Ok(rest)
     }

@@ -128,27 +128,55 @@ impl Table {
         }
     }
 
-    /// Adds the tag of `spelled`, which is inline or a reference, to `tags`.
+    /// Adds the tag of `spelled` to `tags`. Stores strings that are inline, unless they are too long.
     ///
     /// # Errors
     ///
     /// `BadReference` if the table has no such entry, else as for [`add_tag`].
     #[inline(always)]
     pub(crate) fn add_tag(
-        &self,
+        &mut self,
         spelled: &StringRef<'_>,
         tags: &mut Vec<Tag>,
     ) -> Result<(), O5Reason>
-        ensures { O5Reads (λ _. tags.new.items)
-            (and_added tags.old.items (and_then (strings_of self.now spelled.now) tag_of)) result }
+        ensures tag { O5Reads (λ _. tags.new.items)
+            (and_added tags.old.items (and_then (strings_of self.old spelled.now) tag_of)) result }
+        ensures table { OnOk result (self.new ≡ table_after spelled.now self.old) }
     {
         match spelled {
-            StringRef::Inline(strings) => add_tag(self.allocator(), strings, tags),
+            StringRef::Inline(strings) => self.add_inline_tag(strings.first, strings.second, tags),
             StringRef::Reference(reference) => match self.get(*reference) {
                 Some(entry) => entry.add_tag(self.allocator(), tags),
                 None => Err(O5Reason::BadReference),
             },
         }
+    }
+
+    /// Adds the tag of two strings to `tags`, and stores the strings, unless they are too long. The tag is a copy of
+    /// the entry's meaning, so the strings are tested once.
+    ///
+    /// # Errors
+    ///
+    /// As for [`add_tag`].
+    #[inline(never)]
+    fn add_inline_tag(
+        &mut self,
+        first: &[u8],
+        second: &[u8],
+        tags: &mut Vec<Tag>,
+    ) -> Result<(), O5Reason>
+        ensures tag { O5Reads (λ _. tags.new.items)
+            (and_added tags.old.items (tag_of (entry_of first.now second.now))) result }
+        ensures table { OnOk result (self.new ≡ table_with (entry_of first.now second.now) self.old) }
+    {
+        let strings = StringPair { first, second };
+        if !is_short(&strings) {
+            return add_tag(self.allocator(), &strings, tags);
+        }
+        let entry = TableEntry::new(self.allocator(), &strings)?;
+        entry.add_tag(self.allocator(), tags)?;
+        self.push(entry);
+        Ok(())
     }
 
     /// The entry that a reference names: 1 is the entry stored last, and 0 names none.

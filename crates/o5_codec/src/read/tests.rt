@@ -307,7 +307,10 @@ fn takes_strings_by_what_they_mean(rt: HostRuntime) -> Result<(), Fail> {
 02 01 00 00 00 00 61 00 62 63 64 65 66 67 68 69 6a 6b 6c 6d 6e 6f 70 71 72 73 74 75 76 77 78 79 7a 00 \
     = n1 v1 dV c0 t i0 u Ta=bcdefghijklmnopqrstuvwxyz x0 y0
 00 02 02 02 01 00 00 01 = n1 v2 dV c1 t1970-01-01T00:00:01Z i97 ubcdefghijklmnopqrstuvwxyz \
-    Ta=bcdefghijklmnopqrstuvwxyz x0 y0";
+    Ta=bcdefghijklmnopqrstuvwxyz x0 y0
+
+02 01 00 00 00 00 61 20 62 00 c3 9f 25 00 = n1 v1 dV c0 t i0 u Ta%20%b=ß%25% x0 y0
+00 02 00 00 00 01 = n1 v2 dV c0 t i0 u Ta%20%b=ß%25% x0 y0";
     read_all(&rt, rt.alloc(), rows)
 }
 

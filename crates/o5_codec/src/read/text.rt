@@ -13,6 +13,7 @@ ghost use Rattle.o5_codec.specs.Text.{text_of, tag_of, uid_of, user_of, and_user
 use crate::O5Reason;
 use crate::read::base::within_range;
 use crate::read::number::read_number;
+use crate::read::raw::raw_str;
 use crate::strings::StringPair;
 use osm_model::{Memory, Meta, Tag, Text};
 use std::alloc::Global;
@@ -106,6 +107,10 @@ pub(crate) fn known_text(alloc: Global, bytes: &[u8]) -> Result<Option<Text>, Me
     ensures bytes { IfOk result (λ known. IfSome known (λ text. encode_utf8_all text ≡ bytes.now)) }
     ensures text { IfOk result (λ known. IfSome known (λ text. text_of bytes.now ≡ Ok text)) }
 {
+    if let Some(characters) = raw_str(bytes) {
+        let text = Text::from_raw(alloc, characters)?;
+        return Ok(Some(text));
+    }
     match to_str(bytes) {
         Ok(characters) => {
             let text = Text::from_tested_str(alloc, characters)?;
