@@ -49,6 +49,13 @@ impl Fault {
         }
     }
 
+    /// The same fault of the file `input`, for a fault of a search in one file. Out of memory has no file.
+    pub fn of_input(self, input: usize) -> Fault
+        ensures { result ≡ fault_at input self.place self.reason }
+    {
+        Fault::at(input, self.place, self.reason)
+    }
+
     /// The fault of a call after an earlier call on the file `input` was refused.
     pub fn failed(input: usize) -> Fault
         ensures { result ≡ failed_fault input }
