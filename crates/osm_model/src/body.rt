@@ -9,6 +9,8 @@ ghost use Rattle.osm_model.specs.Data.{kind_of, is_deleted, tags_of, ids_of, tex
 ghost use Rattle.osm_model.specs.declared.kind.Kind.TheVariants as kind;
 ghost use Rattle.osm_model.specs.declared.body.Body.TheVariants.{Deleted};
 
+use crate::members::{have_ids, have_texts};
+use crate::references::are_ids;
 use crate::same::Same;
 use crate::{Kind, Members, Memory, References, Tag, Tags};
 use std::mem;
@@ -64,8 +66,8 @@ impl Body {
     {
         match self {
             Body::Deleted(_) | Body::Node { .. } => true,
-            Body::Way { refs, .. } => refs.are_ids(),
-            Body::Relation { members, .. } => members.are_ids(),
+            Body::Way { refs, .. } => are_ids(refs.as_slice()),
+            Body::Relation { members, .. } => have_ids(members.as_slice()),
         }
     }
 
@@ -76,7 +78,7 @@ impl Body {
         match self {
             Body::Deleted(_) => true,
             Body::Node { tags, .. } | Body::Way { tags, .. } => tags.are_texts(),
-            Body::Relation { members, tags } => members.are_texts() && tags.are_texts(),
+            Body::Relation { members, tags } => have_texts(members.as_slice()) && tags.are_texts(),
         }
     }
 
@@ -90,20 +92,6 @@ impl Body {
             Body::Deleted(_) => false,
             Body::Node { tags, .. } => tags.has_memory(),
             Body::Way { .. } | Body::Relation { .. } => true,
-        }
-    }
-
-    /// Whether the tags ascend by the bytes of key and value, each once.
-    #[inline(always)]
-    pub fn is_normal(&self) -> bool
-        ensures { IsTrue result ↔ (normal_body self.now ≡ self.now) }
-    {
-        match self {
-            Body::Deleted(_) => true,
-            // Each kind has its own arm: one arm for all would need the body in memory.
-            Body::Node { tags, .. } => tags.are_normal(),
-            Body::Way { tags, .. } => tags.are_normal(),
-            Body::Relation { tags, .. } => tags.are_normal(),
         }
     }
 

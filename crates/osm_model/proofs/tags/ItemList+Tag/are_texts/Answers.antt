@@ -3,7 +3,7 @@ use Rattle.std.proofs.lemmas.Iterator.{YieldsList-from_slice}
 use Rattle.std.proofs.lemmas.Iterator.Search.{all_from_yields_List}
 use Rattle.osm_model.specs.Text.{is_text}
 use Rattle.osm_model.proofs.TagLaws.{list_all-texts_of_tags}
-use Rattle.osm_model.proofs.tags.Tags.are_texts.Goals as goal
+use Rattle.osm_model.proofs.tags.ItemList+Tag.are_texts.Goals as goal
 
 pub returns : goal.returns
 returns c =

@@ -3,10 +3,10 @@ use Rattle.std.proofs.lemmas.Iterator.{YieldsList-from_slice}
 use Rattle.std.proofs.lemmas.Iterator.Search.{all_from_yields_List}
 use Rattle.std.proofs.lemmas.List.Folds.{list_all-map}
 use Rattle.osm_model.specs.Text.{is_text}
-use Rattle.osm_model.proofs.members.Members.are_texts.Goals as goal
+use Rattle.osm_model.proofs.members.have_texts.Goals as goal
 
 pub returns : goal.returns
 returns c =
-    all_from_yields_List (λ m. is_text m.role) _ _ c.all.result c.all.ensures.ran (YieldsList-from_slice c.args.self.now cc)
+    all_from_yields_List (λ m. is_text m.role) _ _ c.all.result c.all.ensures.ran (YieldsList-from_slice c.args.members.now cc)
     (λ x b q k. search (rules, tests))
-    ∙ sym (list_all-map is_text (λ m. m.role) c.args.self.now)
+    ∙ sym (list_all-map is_text (λ m. m.role) c.args.members.now)

@@ -3,7 +3,7 @@ use Rattle.std.proofs.lemmas.List.Filters.{dedup_is}
 use Rattle.osm_model.specs.Tags.{tag_cmp_total, normal_tags}
 use Rattle.osm_model.proofs.SetLaws.{to_list-of_sorted}
 use Rattle.osm_model.proofs.TagLaws.{tag_cmp-IsAntisymmetric}
-use Rattle.osm_model.proofs.tags.Tags.sort.Goals as goal
+use Rattle.osm_model.proofs.tags.ItemList+Tag.sort.Goals as goal
 
 pub returns : goal.returns
 returns c =
