@@ -45,9 +45,10 @@ LINE = "r7 v1 dV c1 t1970-01-01T00:00:01Z i1 ua%20%b T%1F600%=%3d%,%e9%=1 Mn1@â‚
 CANONICAL = "r7 v1 dV c1 t1970-01-01T00:00:01Z i1 ua%20%b TÃ©=1,%1f600%=%3d% Mn1@%20ac%".encode()
 REAL = b"n1 v3 dV c12 t2014-05-06T07:08:09Z i5 uanna Tnatural=tree x8.6868047 y49.0000001\n"
 AT_5 = b"n1 v2 dV c0 t1970-01-01T00:00:05Z i0 u T x2 y1\n"
-MANY = "".join(
-    f"r{number} v1 dV c7 t2014-05-06T07:08:09Z i{number} uanna%20%{number} Tkey=value{number},name=tree Mn{number}@in,w2@out\n"
-    for number in range(1, 41)).encode()
+RELATIONS = [
+    f"r{number} v1 dV c7 t2014-05-06T07:08:09Z i{number} uanna%20%{number} Tkey=value{number},name=tree Mn{number}@in,w2@out\n".encode()
+    for number in range(1, 61)]
+MANY = b"".join(RELATIONS[:40])
 # Groups of versions of one key. The versions of a group differ in the fields that are compared last.
 TIES = "".join(
     f"{line}\n" for line in (
@@ -83,8 +84,10 @@ FILES = {
     "many.opl": MANY,
     "two.plan": PLAN,
     "ties.opl": TIES,
-    # Lines begin at 0, 9, 18, 22 and 31; the third one is a comment.
+    "ended.opl": CREATED + GONE + b"# end\n",
     "slice.opl": b"n1 v1 dD\nn1 v2 dD\n# c\nn3 v1 dD\nw1 v1 dD",
+    # It has more than 4 KB, so a shard reads a part of it.
+    "large.opl": b"".join(RELATIONS),
 }
 IDS = b"".join(f"n{number} v1 dV c0 t i0 u T x1 y1\n".encode() for number in (0, -1, -2, 3))
 
@@ -144,11 +147,6 @@ ROWS = [
     Row("History::join @a.opl @b.opl", CREATED + GONE, behind(MEMORY_WORDS, CREATED + GONE)),
     Row("History::copy @pair.o5m", NODE + DELETION, behind(MEMORY_WORDS, NODE + DELETION)),
     *(Row(f"compare_all {rounds} @ties.opl", b"compared\n") for rounds in ROUNDS),
-    Row("Decoder::new", b"made\n"),
-    Row("Encoder::new", b"made\n"),
-    Row("Sink::new", b"made\n"),
-    Row("FileSource::new @pair.o5m", b"made\n"),
-    Row("Fleet::new", b"made\n"),
     Row("read_line @line", CANONICAL + b"\n"),
     Row("write_line @line", CANONICAL),
     Row("read_set @set", NODE),
@@ -179,24 +177,17 @@ ROWS = [
     run_row("run_merge opl @many.opl @many.opl", 80, 40, MANY, None),
     run_row("run_apply opl @a.opl @nine.opl", 2, 1, EAST_9),
     run_row("run_apply opl @a.opl @b.opl", 2, 0, b""),
-    run_row("run_apply_with_history opl @a.opl @b.opl", 2, 2, CREATED + GONE),
     run_row("run_time_filter opl 7 @times.opl", 2, 1, AT_5),
     run_row("run_period_filter opl 6 11 @times.opl", 2, 1, AT_5),
     run_row("run_sort opl @ids.opl", 4, 4, IDS),
     run_row("run_sort o5m @ways.opl", 2, 2, WAY_SETS, None),
-    Row("run_check @pair.o5m", b"o5m: 2 versions, 1 objects, sorted\n"),
-    Row("run_check @unsorted.opl", b"opl: 2 versions, 2 objects, unsorted\n"),
-    Row("fault_text cut.o5m @cut.o5m", b"cut.o5m: 27: NoEnd\n", behind(MEMORY_WORDS, b"")),
-    Row("line_start 10 @slice.opl", b"18\n"),
-    Row("first_version 10 @slice.opl", deletion("n3 v1")),
-    Row("first_version 32 @slice.opl", b"none\n"),
-    Row("cut_offset n2 @slice.opl", b"18\n"),
-    Row("cut_offset w1 @slice.opl", b"31\n"),
-    run_row("run_slice opl - n2 @slice.opl @slice.opl", 4, 2, deletion("n1 v1") + GONE, None),
-    run_row("run_slice opl n3 - @slice.opl", 2, 2, deletion("n3 v1") + deletion("w1 v1"), None),
-    run_row("run_slice o5m n1 n2 @pair.o5m @node.opl", 3, 2, NODE_THEN_DELETION, None),
-    run_row("run_slice_of_parts opl n1 n2 @pair.o5m", 2, 2, NODE + DELETION, None),
-    run_row("run_slice_of_parts o5m - w1 @pair.opl @node.o5m", 3, 2, NODE_THEN_DELETION, None),
+    run_row("run_files opl @unsorted.opl @b.opl", 3, 3, CREATED + GONE + CREATED.replace(b"n1", b"n2")),
+    run_row("run_files o5m @pair.o5m @node.opl", 3, 2, NODE_THEN_DELETION),
+    run_row("run_files_sorted opl @first.opl @second.opl", 2, 2, FIRST + SECOND, None),
+    run_row("run_streams opl @ended.opl @ended.opl", 4, 2, CREATED + GONE),
+    run_row("run_shard opl 1/2 @slice.opl @slice.opl", 6, 3, deletion("n1 v1") + GONE + deletion("n3 v1"), None),
+    run_row("run_shard o5m 2/2 @pair.o5m @node.opl", 0, 0, octets("H fe"), None),
+    run_row("run_shard opl 2/2 @large.opl", 29, 29, b"".join(RELATIONS[31:]), None),
 ]
 
 

@@ -1,5 +1,6 @@
 //! Readers and writers that move few bytes at a time, and fail.
 use anyhow::Result;
+use osm_files::CutBack;
 use std::io;
 use std::io::{Read, Write};
 use std::str::Split;
@@ -110,6 +111,26 @@ impl Write for Buffer<'_> {
         if self.left == 0 {
             return Err(io::Error::from(io::ErrorKind::Interrupted));
         }
+        Ok(())
+    }
+}
+
+/// Its last bytes can be removed, unless every write fails.
+impl CutBack for Buffer<'_> {
+    ghost use Rattle.std.specs.Prelude.{true};
+
+    ghost can_cut = { λ _. true };
+
+    fn can_be_cut_back(&self) -> bool {
+        true
+    }
+
+    fn length(&self) -> io::Result<u64> {
+        Ok(self.taken.len() as u64)
+    }
+
+    fn cut_back(&mut self, length: u64) -> io::Result<()> {
+        self.taken.truncate(length as usize);
         Ok(())
     }
 }

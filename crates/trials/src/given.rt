@@ -1,8 +1,7 @@
 //! The arguments of a call: files, and words, which are the other arguments.
 use crate::device::{Pace, Pieces};
-use crate::slices::PacedFile;
 use anyhow::{Result, bail};
-use osm_files::{Format, FromRead};
+use osm_files::{Broken, Format, FromRead, Input, ReadAt};
 use std::alloc::Global;
 use std::fs;
 use std::rt::Files;
@@ -12,6 +11,33 @@ use std::rt::Files;
 struct File {
     bytes: Vec<u8>,
     pace: Pace,
+}
+
+/// A file that is read at offsets, at a pace.
+#[derive(Clone, Copy)]
+pub struct PacedFile<'a> {
+    bytes: &'a [u8],
+    pace: Pace,
+}
+
+impl ReadAt for PacedFile<'_> {
+    ghost use Rattle.std.specs.Prelude.{None};
+
+    ghost bytes = { λ _. None };
+
+    ghost fails = { λ _. Unit {0} };
+
+    fn size(&self) -> Result<u64, Broken> {
+        Ok(self.bytes.len() as u64)
+    }
+
+    fn read_at(&self, buffer: &mut [u8], offset: u64) -> Result<usize, Broken> {
+        let start = offset.min(self.bytes.len() as u64) as usize;
+        let mut rest = FromRead::new(Pieces::new(&self.bytes[start..], self.pace.after(start)));
+        let count = rest.read(buffer);
+        drop(rest);
+        count
+    }
 }
 
 /// The words and the files of a call.
@@ -81,12 +107,13 @@ impl Given {
         }
     }
 
-    /// The file at this index, to be opened at offsets and read at its pace.
-    pub fn paced_file(&self, index: usize) -> Result<PacedFile<'_>> {
-        match self.files.get(index) {
-            Some(file) => Ok(PacedFile::new(&file.bytes, file.pace)),
-            None => bail!("a file is missing"),
+    /// All files, to be read at offsets, each at its pace.
+    pub fn paced_files(&self, alloc: Global) -> Result<Vec<PacedFile<'_>>> {
+        let mut files = Vec::new(alloc);
+        for File { bytes, pace } in &self.files {
+            files.push(PacedFile { bytes, pace: *pace })?;
         }
+        Ok(files)
     }
 
     /// Readers of all files, each at the pace of its file.

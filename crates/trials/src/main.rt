@@ -15,26 +15,20 @@ use std::io::Write;
 
 mod device;
 mod given;
-mod made;
+mod jobs;
 mod mirrors;
 mod printed;
-mod runs;
-mod selections;
-mod slices;
 mod streams;
 mod units;
 mod values;
 
 /// The names of the calls, module by module.
-const GROUPS: [&[&str]; 8] = [
+const GROUPS: [&[&str]; 5] = [
     values::CALLS,
-    made::CALLS,
     units::CALLS,
     streams::CALLS,
-    selections::CALLS,
     mirrors::CALLS,
-    runs::CALLS,
-    slices::CALLS,
+    jobs::CALLS,
 ];
 
 fn main(rt: HostRuntime) -> Result<()> {
@@ -52,26 +46,17 @@ fn run_call(alloc: Global, call: &str, given: &Given) -> Result<Vec<u8>> {
     if values::CALLS.contains(&call) {
         return values::run_call(alloc, call, given);
     }
-    if made::CALLS.contains(&call) {
-        return made::run_call(alloc, call, given);
-    }
     if units::CALLS.contains(&call) {
         return units::run_call(alloc, call, given);
     }
     if streams::CALLS.contains(&call) {
         return streams::run_call(alloc, call, given);
     }
-    if selections::CALLS.contains(&call) {
-        return selections::run_call(alloc, call, given);
-    }
     if mirrors::CALLS.contains(&call) {
         return mirrors::run_call(alloc, call, given);
     }
-    if runs::CALLS.contains(&call) {
-        return runs::run_call(alloc, call, given);
-    }
-    if slices::CALLS.contains(&call) {
-        return slices::run_call(alloc, call, given);
+    if jobs::CALLS.contains(&call) {
+        return jobs::run_call(alloc, call, given);
     }
     bail!("there is no such call")
 }

@@ -1,7 +1,8 @@
-//! Calls that make versions and histories.
+//! Calls that make versions and histories, and that select versions of a history.
 use crate::given::Given;
 use crate::printed::{history_of, line_of, lines_of, printed};
 use anyhow::{Result, bail};
+use osm_merge::{at, between, snapshot, visible};
 use osm_model::{Body, History, Meta, Tag, Tags, Text, Version};
 use std::alloc::Global;
 
@@ -13,6 +14,10 @@ pub const CALLS: &[&str] = &[
     "History::join",
     "History::copy",
     "compare_all",
+    "snapshot",
+    "visible",
+    "at",
+    "between",
 ];
 
 /// The result of a call.
@@ -23,7 +28,8 @@ pub fn run_call(alloc: Global, call: &str, given: &Given) -> Result<Vec<u8>> {
         "History::from_versions" => from_versions(alloc, given),
         "History::join" => join(alloc, given.file(0)?, given.file(1)?),
         "History::copy" => copy_history(alloc, given.file(0)?),
-        _ => compare_all(alloc, u64::from(given.time(0)?), given.file(0)?),
+        "compare_all" => compare_all(alloc, u64::from(given.time(0)?), given.file(0)?),
+        _ => select(alloc, call, given),
     }
 }
 
@@ -119,4 +125,16 @@ fn is_ascending(history: &History) -> bool {
         }
     }
     true
+}
+
+/// The lines of the selected versions of a file.
+fn select(alloc: Global, call: &str, given: &Given) -> Result<Vec<u8>> {
+    let history = history_of(alloc, given.file(0)?)?;
+    let selected = match call {
+        "snapshot" => snapshot(alloc, &history),
+        "visible" => visible(alloc, &history),
+        "at" => at(alloc, &history, given.time(0)?),
+        _ => between(alloc, &history, given.time(0)?, given.time(1)?),
+    };
+    lines_of(alloc, &selected?)
 }
