@@ -2,8 +2,8 @@
 use crate::rank::Rank;
 use crate::version::first_fault;
 use crate::{
-    Body, History, Key, Kind, Member, Members, Memory, Meta, Object, Parts, Ranked, References,
-    Spare, Tag, Tags, Text, ValueFault, Version, is_id, strip_escaped,
+    Body, History, Item, Key, Kind, Member, Members, Memory, Meta, Object, Parts, Ranked,
+    References, Spare, Tag, Tags, Text, ValueFault, Version, is_id, strip_escaped,
 };
 use std::alloc::{AllocError, Global};
 use std::cmp::Ordering;
@@ -222,17 +222,6 @@ fn a_copy_is_equal(rt: HostRuntime) -> Result<(), Fail> {
     Ok(())
 }
 
-#[test]
-fn kinds_have_ranks_and_letters(rt: HostRuntime) {
-    for (kind, index, letter) in [
-        (Kind::Node, 0, b'n'),
-        (Kind::Way, 1, b'w'),
-        (Kind::Relation, 2, b'r'),
-    ] {
-        assert_eq!(rt; (kind.index(), kind.letter()), (index, letter));
-    }
-}
-
 /// Whether a text of these characters and all of `more` after them is `whole`.
 fn grows_to(alloc: Global, characters: &str, more: &[&str], whole: &str) -> Result<bool, Fail> {
     let mut grown = text(alloc, characters)?;
@@ -432,14 +421,6 @@ fn parts_are_filled_in_place(rt: HostRuntime) -> Result<(), Fail> {
     };
     let way = filled(alloc, &text(alloc, user)?)?;
     assert!(rt; has_fields(alloc, &way, fields)?);
-    Ok(())
-}
-
-#[test]
-fn references_are_a_list(rt: HostRuntime) -> Result<(), Fail> {
-    let refs = references(rt.alloc(), &[3, -1, 3])?;
-    assert_eq!(rt; refs.as_slice(), [3, -1, 3].as_slice());
-    assert_eq!(rt; refs.copy()?.into_vec().as_slice(), [3, -1, 3].as_slice());
     Ok(())
 }
 
