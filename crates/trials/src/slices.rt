@@ -70,7 +70,7 @@ pub fn run_call(alloc: Global, call: &str, given: &Given) -> Result<Vec<u8>> {
 fn start(alloc: Global, given: &Given) -> Result<Vec<u8>> {
     let offset = given.word(0)?.parse::<u64>()?;
     let file = given.paced_file(0)?;
-    let start = line_start(&file, 0, offset, size_of(&file)?)?;
+    let start = line_start(&file, offset, size_of(&file)?)?;
     printed(alloc, format!(in alloc; "{start}")?.as_str(), b"")
 }
 
@@ -79,8 +79,8 @@ fn first(alloc: Global, given: &Given) -> Result<Vec<u8>> {
     let offset = given.word(0)?.parse::<u64>()?;
     let file = given.paced_file(0)?;
     let size = size_of(&file)?;
-    let start = line_start(&file, 0, offset, size)?;
-    match first_version(alloc, &file, 0, start, size)? {
+    let start = line_start(&file, offset, size)?;
+    match first_version(alloc, &file, start, size)? {
         Some(version) => line_of(alloc, &version),
         None => printed(alloc, "none", b""),
     }
@@ -99,7 +99,7 @@ fn cut(alloc: Global, given: &Given) -> Result<Vec<u8>> {
     let Some(bound) = object(given.word(0)?)? else {
         bail!("there is no object to cut at");
     };
-    let offset = cut_offset(alloc, &given.paced_file(0)?, 0, bound)?;
+    let offset = cut_offset(alloc, &given.paced_file(0)?, bound)?;
     printed(alloc, format!(in alloc; "{offset}")?.as_str(), b"")
 }
 
