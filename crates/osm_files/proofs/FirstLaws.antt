@@ -12,7 +12,6 @@ use Rattle.osm_files.specs.declared.reason.Reason.TheVariants.{ReadFault}
 use Rattle.osm_files.specs.declared.extent.Extent.{Extent}
 use Rattle.osm_files.specs.Extent.{ExtentCanGive, extent_rest}
 use Rattle.osm_files.specs.ExtentGives.{extent_given}
-use Rattle.osm_files.specs.Fault.{IsOfFile}
 use Rattle.osm_files.specs.Input.{InputRest}
 use Rattle.osm_files.specs.Lines.{bytes_between, IsFirstOf, IsFirstIn, IsFirstBetween}
 use Rattle.osm_files.specs.Opl.{OplFile}
@@ -197,14 +196,6 @@ module _ {R : Type 0} (can : R → InputRest → Type 0) (one : R → InputRest)
       (extent_can Fails all start end y.0 extent) result later
       (subst (λ us. SourceStep (Some (with_input input us)) result later) (units_of_lines start y.0 few) y.2)
 
-  -- a fault of the first call on the lines has the number of the file
-  input_given : (start : ℕ) (reader : R) (fault : Fault) (q : Position R) →
-      StepsOn can (of_lines input start reader) (Err fault) q → IsOfFile input fault
-  input_given start reader fault q steps =
-      let y = steps (one q.rest) (possible q.rest) in
-      ⊎_elim (λ memory. inl memory)
-      (λ refused. inr (refusal_input input (units_from (Some InOpl) start y.0).refusal fault (ap (λ s. s.refusal) refused))) y.2.0
-
 module _ {F : Type 0} (fails : F → Type 0) (bytes : F → Option (List ℕ)) where
   abbrev Given : Extent F → InputRest → Type 0
   Given e = ExtentCanGive (fails e.file.now) (bytes e.file.now) e.next e.end
@@ -226,12 +217,6 @@ module _ {F : Type 0} (fails : F → Type 0) (bytes : F → Option (List ℕ)) w
     first_is file end same from upto bound =
         first_given Given one possible input (fails file) (bytes file) start end reader bound
         (λ c. subst (λ (t : F × ℕ × ℕ). ExtentCanGive (fails t.0) (bytes t.0) t.1 t.2 c) (λ i. (same i, from i, upto i))) result q steps
-
-    -- A fault of the first call has the number of the file.
-    pub first_input : (fault : Fault) → result ≡ Err fault → IsOfFile input fault
-    first_input fault is =
-        input_given Given one possible input start reader fault q
-        (subst (λ r. StepsOn Given (of_lines input start reader) r q) is steps)
 
 -- the lines of a file spell one list of versions
 pub one_opl : (bytes : List ℕ) (versions others : List VersionData) → OplFile bytes versions → OplFile bytes others → versions ≡ others

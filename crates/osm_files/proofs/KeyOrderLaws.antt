@@ -429,13 +429,13 @@ module _ (all : List ℕ) (start end : ℕ) (lines : RisingLines) (window : List
       ∙ ap (λ xs. bytes_between all start lines.end ++ xs) (window_between all lines.end end window at fits)
 
   -- A stop in the window is the result of the search.
-  pub stops_search : (Fails : Type 0) (input : ℕ) (is_last : Bool) (offset : ℕ) (why : Stop)
+  pub stops_search : (Fails : Type 0) (is_last : Bool) (offset : ℕ) (why : Stop)
       → (is_last ≡ true → lines.end + length window ≡ end) → StopsIn window lines is_last offset why
-      → IsOrderOfLines Fails all start end (outcome_at input offset why)
-  stops_search Fails input is_last offset Falls all_there (low, high, (after, rise)) = (after, rise_in offset after low high rise)
-  stops_search Fails input is_last offset (Refused reason) all_there (inl memory) =
-      subst (λ (r : OplReason). IsOrderOfLines Fails all start end (outcome_at input offset (Refused r))) (sym memory) (inl (inl refl))
-  stops_search Fails input is_last offset (Refused reason) all_there (inr never) =
+      → IsOrderOfLines Fails all start end (outcome_at offset why)
+  stops_search Fails is_last offset Falls all_there (low, high, (after, rise)) = (after, rise_in offset after low high rise)
+  stops_search Fails is_last offset (Refused reason) all_there (inl memory) =
+      subst (λ (r : OplReason). IsOrderOfLines Fails all start end (outcome_at offset (Refused r))) (sym memory) (inl (inl refl))
+  stops_search Fails is_last offset (Refused reason) all_there (inr never) =
       inr (subst IsNoFile (sym whole_lines)
       (no_file_after (bytes_between all start lines.end) (window ++ rest_of) front_ends
       (never rest_of (λ last.
@@ -456,13 +456,13 @@ module _ (start end : ℕ) (lines : RisingLines) (window : List ℕ) (is_last : 
       rises_on all start end lines window at after_start less fits risen is_last read all_there all_read within reads
 
   -- The search stops in the window.
-  pub window_stops : (Fails : Type 0) (input : ℕ) (known : Option (List ℕ)) (stop : StopAt) → AreAt known lines.end window
+  pub window_stops : (Fails : Type 0) (known : Option (List ℕ)) (stop : StopAt) → AreAt known lines.end window
       → IfSome known (λ all. RisesTo all start end lines)
       → ReadsLines window lines is_last (let r : Result RisingLines StopAt = Err stop in r)
-      → IfSome known (λ all. end ≤ length all → IsOrderOfLines Fails all start end (outcome_of input stop))
-  window_stops Fails input None stop at risen reads = tt
-  window_stops Fails input (Some all) stop at risen reads = λ long.
-      stops_search all start end lines window at after_start less fits risen Fails input is_last stop.offset stop.why all_there reads
+      → IfSome known (λ all. end ≤ length all → IsOrderOfLines Fails all start end (outcome_of stop))
+  window_stops Fails None stop at risen reads = tt
+  window_stops Fails (Some all) stop at risen reads = λ long.
+      stops_search all start end lines window at after_start less fits risen Fails is_last stop.offset stop.why all_there reads
 
 -- All lines rise.
 pub all_risen : (known : Option (List ℕ)) (start end : ℕ) (lines : RisingLines) → lines.end - start ≡ end - start

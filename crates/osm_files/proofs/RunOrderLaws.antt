@@ -185,7 +185,7 @@ verdict_refuses bytes v e other (held, holds) =
     (let f : None ≡ Some v = sym none ∙ verdict_without_order bytes v e other in cc)
 
 -- a fault at another offset is a failure to read if it was one
-moved_failure : (Fails : Type 0) (input place : ℕ) (fault : Fault) → IsReadFailure Fails fault
+pub moved_failure : (Fails : Type 0) (input place : ℕ) (fault : Fault) → IsReadFailure Fails fault
     → IsReadFailure Fails (fault_at input place fault.reason)
 moved_failure Fails input place fault failure =
     ⊎_elim (λ memory. inl memory)

@@ -89,9 +89,9 @@ IsOrderOfLines Fails all start end (Ok (Some offset)) =
 IsOrderOfLines Fails all start end (Err fault) = IsReadFailure Fails fault ⊎ IsNoFile (bytes_between all start end)
 
 -- the result of a search that stops at a line
-abbrev pub outcome_at : ℕ → ℕ → Stop → Result (Option ℕ) Fault
-outcome_at input offset Falls = Ok (Some offset)
-outcome_at input offset (Refused reason) = Err (fault_at input offset (of_line reason))
+abbrev pub outcome_at : ℕ → Stop → Result (Option ℕ) Fault
+outcome_at offset Falls = Ok (Some offset)
+outcome_at offset (Refused reason) = Err (fault_at 0 offset (of_line reason))
 
-abbrev pub outcome_of : ℕ → StopAt → Result (Option ℕ) Fault
-outcome_of input stop = outcome_at input stop.offset stop.why
+abbrev pub outcome_of : StopAt → Result (Option ℕ) Fault
+outcome_of stop = outcome_at stop.offset stop.why

@@ -4,7 +4,6 @@ ghost use Rattle.std.specs.Prelude.{◌≡◌, ◌+◌, ◌<◌, ◌≤◌, ◌^
 ghost use Rattle.std.specs.Prelude.{IfOk, IfErr, OnOk, OnErr, IfSome};
 ghost use Rattle.std.specs.List.{All};
 ghost use Rattle.osm_files.specs.declared.reason.Reason.TheVariants.{ReadFault};
-ghost use Rattle.osm_files.specs.Fault.{IsOfFile};
 ghost use Rattle.osm_files.specs.FileRuns.{EndsWhole, StopsSource, GivesSortedFile, IfWhole};
 ghost use Rattle.osm_files.specs.FileRuns.{IsSortedRun, IsAccepted, IsAcceptedRun, IsSortedIfAccepted};
 ghost use Rattle.osm_files.specs.FileRuns.{is_lines, IsReadFailure, IsRefusalOf, IsOrderOf};
@@ -26,7 +25,7 @@ use crate::source::{FileSource, Source};
 use crate::split_file::SplitFile;
 use std::alloc::Global;
 
-/// Finds the sorted runs of `file`, which has `size` bytes. `input` is the file's number.
+/// Finds the sorted runs of `file`, which has `size` bytes.
 ///
 /// The result is `None` if there are more than `most` runs, or if the file can't be split where its order breaks. An o5
 /// file can only be split at a reset.
@@ -42,12 +41,11 @@ use std::alloc::Global;
 ///
 /// # Errors
 ///
-/// The fault of the file if a line or data set can't be read, or if the file can't be read; or `Memory`. A file that is
+/// The fault of the file, with the number 0, if a line or data set can't be read, or if the file can't be read; or `Memory`. A file that is
 /// accepted in some order of its versions is refused only if a read fails or memory runs out.
 pub fn find_runs<F: ReadAt>(
     alloc: Global,
     file: &F,
-    input: usize,
     size: u64,
     most: usize,
 ) -> Result<Option<Vec<SortedRun>>, Fault>
@@ -58,16 +56,15 @@ pub fn find_runs<F: ReadAt>(
     ensures accepted { IfOk result (λ found. IfSome found (λ runs. IfWhole (F.bytes file.now) size (λ all.
         IsAccepted all → All (IsAcceptedRun all) runs.items))) }
     ensures few { IfOk result (λ found. IfSome found (λ runs. length runs.items ≤ most)) }
-    ensures input { IfErr result (IsOfFile input) }
     ensures refused { IfErr result (λ fault.
         IfWhole (F.bytes file.now) size (λ all. IsRefusalOf (F.fails file.now) all fault)) }
 {
     let mut split = SplitFile::new(alloc);
     'runs: for done in 0..most {
-        let Some(offset) = find_break(alloc, file, input, size, split.rest())? else {
+        let Some(offset) = find_break(alloc, file, size, split.rest())? else {
             return Ok(Some(split.into_runs()?));
         };
-        if !split_before(alloc, file, input, size, &mut split, offset)? {
+        if !split_before(alloc, file, size, &mut split, offset)? {
             return Ok(None);
         }
     }
@@ -79,7 +76,6 @@ pub fn find_runs<F: ReadAt>(
 fn split_before<F: ReadAt>(
     alloc: Global,
     file: &F,
-    input: usize,
     size: u64,
     split: &mut SplitFile,
     offset: u64,
@@ -96,15 +92,14 @@ fn split_before<F: ReadAt>(
         → All (IsAcceptedRun all) split.new.fronts) }
     ensures rest { result ≡ Ok true → IfWhole (F.bytes file.now) size (λ all.
         IsAcceptedRun all split.old.rest → IsAcceptedRun all split.new.rest) }
-    ensures input { IfErr result (IsOfFile input) }
     ensures failure { IfErr result (λ fault.
         IfWhole (F.bytes file.now) size (λ all. IsReadFailure (F.fails file.now) fault)) }
 {
     let Ok(bytes) = bytes_at(file, split.rest().start, offset) else {
-        return Err(Fault::at(input, offset, Reason::ReadFault));
+        return Err(Fault::at(0, offset, Reason::ReadFault));
     };
     match split.split(offset, bytes)? {
-        Some(front) if front.lacks_end => is_sorted(alloc, file, input, size, front),
+        Some(front) if front.lacks_end => is_sorted(alloc, file, size, front),
         Some(_) => Ok(true),
         None => Ok(false),
     }
@@ -139,22 +134,15 @@ pub(crate) fn byte_at<F: ReadAt>(file: &F, offset: u64) -> Result<Option<u8>, Br
 /// # Errors
 ///
 /// `ReadFault` if the file can't be read; or `Memory`.
-fn is_sorted<F: ReadAt>(
-    alloc: Global,
-    file: &F,
-    input: usize,
-    size: u64,
-    run: SortedRun,
-) -> Result<bool, Fault>
+fn is_sorted<F: ReadAt>(alloc: Global, file: &F, size: u64, run: SortedRun) -> Result<bool, Fault>
     ensures sorted { result ≡ Ok true → IfWhole (F.bytes file.now) size (λ all. IsSortedByKeys all run) }
-    ensures input { IfErr result (IsOfFile input) }
     ensures failure { IfErr result (λ fault.
         IfWhole (F.bytes file.now) size (λ all. IsReadFailure (F.fails file.now) fault)) }
 {
-    match order_of_run(alloc, file, input, size, run)? {
+    match order_of_run(alloc, file, size, run)? {
         SetOrder::Rises => Ok(true),
         SetOrder::Falls(_) => Ok(false),
-        SetOrder::Unknown => is_sorted_whole(alloc, file, input, size, run),
+        SetOrder::Unknown => is_sorted_whole(alloc, file, size, run),
     }
 }
 
@@ -166,16 +154,14 @@ fn is_sorted<F: ReadAt>(
 fn is_sorted_whole<F: ReadAt>(
     alloc: Global,
     file: &F,
-    input: usize,
     size: u64,
     run: SortedRun,
 ) -> Result<bool, Fault>
     ensures sorted { result ≡ Ok true → IfWhole (F.bytes file.now) size (λ all. IsSortedRun all run) }
-    ensures input { IfErr result (IsOfFile input) }
     ensures failure { IfErr result (λ fault.
         IfWhole (F.bytes file.now) size (λ all. IsReadFailure (F.fails file.now) fault)) }
 {
-    match read_run(alloc, file, input, size, run) {
+    match read_run(alloc, file, size, run) {
         Ok(first) => Ok(first.is_none()),
         Err(fault) if fault.reason == Reason::ReadFault => Err(fault),
         Err(fault) if fault.reason == Reason::Memory => Err(Fault::memory()),
@@ -192,22 +178,20 @@ fn is_sorted_whole<F: ReadAt>(
 fn find_break<F: ReadAt>(
     alloc: Global,
     file: &F,
-    input: usize,
     size: u64,
     run: SortedRun,
 ) -> Result<Option<u64>, Fault>
     ensures order { IfWhole (F.bytes file.now) size (λ all. IsBreakOf (F.fails file.now) all run result) }
-    ensures input { IfErr result (IsOfFile input) }
 {
     let first = match byte_at(file, run.start) {
         Ok(first) => first,
-        Err(Broken) => return Err(Fault::at(input, run.start, Reason::ReadFault)),
+        Err(Broken) => return Err(Fault::at(0, run.start, Reason::ReadFault)),
     };
     if is_lines(run, first) {
         let end = run.start.saturating_add(run.size).min(size);
-        first_falling(alloc, file, input, run.start, end)
+        first_falling(alloc, file, run.start, end)
     } else {
-        find_break_of_sets(alloc, file, input, size, run)
+        find_break_of_sets(alloc, file, size, run)
     }
 }
 
@@ -220,17 +204,15 @@ fn find_break<F: ReadAt>(
 fn find_break_of_sets<F: ReadAt>(
     alloc: Global,
     file: &F,
-    input: usize,
     size: u64,
     run: SortedRun,
 ) -> Result<Option<u64>, Fault>
     ensures order { IfWhole (F.bytes file.now) size (λ all. IsBreakOf (F.fails file.now) all run result) }
-    ensures input { IfErr result (IsOfFile input) }
 {
-    match order_of_run(alloc, file, input, size, run)? {
+    match order_of_run(alloc, file, size, run)? {
         SetOrder::Rises => Ok(None),
         SetOrder::Falls(offset) => Ok(Some(offset)),
-        SetOrder::Unknown => read_run(alloc, file, input, size, run),
+        SetOrder::Unknown => read_run(alloc, file, size, run),
     }
 }
 
@@ -256,38 +238,36 @@ fn is_lines(run: SortedRun, first: Option<u8>) -> bool
 fn read_run<F: ReadAt>(
     alloc: Global,
     file: &F,
-    input: usize,
     size: u64,
     run: SortedRun,
 ) -> Result<Option<u64>, Fault>
     ensures order { IfWhole (F.bytes file.now) size (λ all. IsOrderOf (F.fails file.now) all run result) }
     ensures failure { IfErr result (λ fault. fault.reason ≡ ReadFault →
         IfWhole (F.bytes file.now) size (λ all. F.fails file.now)) }
-    ensures input { IfErr result (IsOfFile input) }
 {
-    match read_sorted(alloc, input, FramedExtent::of_run(file, size, run)) {
+    match read_sorted(alloc, FramedExtent::of_run(file, size, run)) {
         Ok(()) => Ok(None),
         Err(fault) => {
             let offset = run.offset_in_file(fault.place);
             if fault.reason == Reason::Unsorted {
                 Ok(Some(offset))
             } else {
-                Err(Fault::at(input, offset, fault.reason))
+                Err(Fault::at(0, offset, fault.reason))
             }
         }
     }
 }
 
-/// Reads a sorted file to its end. `input` is its number.
+/// Reads a sorted file to its end.
 ///
 /// # Errors
 ///
 /// The fault of the file, or `Memory`.
-fn read_sorted<R: Input + Drop>(alloc: Global, input: usize, reader: R) -> Result<(), Fault>
+fn read_sorted<R: Input + Drop>(alloc: Global, reader: R) -> Result<(), Fault>
     ensures sorted { OnOk result (GivesOne (R.can_give reader) GivesSortedFile) }
-    ensures refused { IfErr result (λ fault. GivesOne (R.can_give reader) (λ c. StopsOpening input c fault)) }
+    ensures refused { IfErr result (λ fault. GivesOne (R.can_give reader) (λ c. StopsOpening 0 c fault)) }
 {
-    let mut source = FileSource::new(alloc, input, reader)?;
+    let mut source = FileSource::new(alloc, 0, reader)?;
     let outcome = read_to_end(&mut source);
     drop(source);
     outcome

@@ -1,6 +1,5 @@
 //! The order of the lines of an OPL file by their keys. The lines are read in windows of the file.
 ghost use Rattle.std.specs.Prelude.{◌≡◌, ◌+◌, ◌<◌, ◌≤◌, ◌^◌, true, [], Ok, length, take, IfOk, IfErr, OnErr, IfSome};
-ghost use Rattle.osm_files.specs.Fault.{IsOfFile};
 ghost use Rattle.osm_files.specs.FileRuns.{IsReadFailure};
 ghost use Rattle.osm_files.specs.KeyOrder as spec;
 ghost use Rattle.osm_files.specs.ReadAt.{AreAt, AreLast};
@@ -48,17 +47,15 @@ struct StopAt {
 /// # Errors
 ///
 /// The reason why a line before that offset can't be read, at the line's offset in the file. `ReadFault` if the file
-/// can't be read or is shorter; or `Memory`. `input` is the file's number.
+/// can't be read or is shorter; or `Memory`.
 pub(crate) fn first_falling<F: ReadAt>(
     alloc: Global,
     file: &F,
-    input: usize,
     start: u64,
     end: u64,
 ) -> Result<Option<u64>, Fault>
     ensures order { IfSome (F.bytes file.now) (λ all. end ≤ length all
         → spec.IsOrderOfLines (F.fails file.now) all start end result) }
-    ensures input { IfErr result (IsOfFile input) }
 {
     let mut window = WINDOW;
     let mut lines = RisingLines {
@@ -68,7 +65,7 @@ pub(crate) fn first_falling<F: ReadAt>(
     'windows: while lines.end < end {
         let left = end - lines.end;
         let count = left.min(window);
-        let bytes = read_exact(alloc, file, input, lines.end, count as usize)?;
+        let bytes = read_exact(alloc, file, lines.end, count as usize)?;
         match read_lines(alloc, &bytes, lines, count == left) {
             Ok(read) => {
                 if read.end == lines.end {
@@ -76,7 +73,7 @@ pub(crate) fn first_falling<F: ReadAt>(
                 }
                 lines = read;
             }
-            Err(stop) => return stop.outcome(input),
+            Err(stop) => return stop.outcome(),
         }
     }
     Ok(None)
@@ -84,12 +81,12 @@ pub(crate) fn first_falling<F: ReadAt>(
 
 impl StopAt {
     /// The result of a search that stops so.
-    fn outcome(self, input: usize) -> Result<Option<u64>, Fault>
-        ensures { result ≡ spec.outcome_of input self }
+    fn outcome(self) -> Result<Option<u64>, Fault>
+        ensures { result ≡ spec.outcome_of self }
     {
         match self.why {
             Stop::Falls => Ok(Some(self.offset)),
-            Stop::Refused(reason) => Err(Fault::at(input, self.offset, Reason::from(reason))),
+            Stop::Refused(reason) => Err(Fault::at(0, self.offset, Reason::from(reason))),
         }
     }
 }
@@ -102,7 +99,6 @@ impl StopAt {
 pub(crate) fn read_exact<F: ReadAt>(
     alloc: Global,
     file: &F,
-    input: usize,
     offset: u64,
     count: usize,
 ) -> Result<Vec<u8>, Fault>
@@ -111,7 +107,6 @@ pub(crate) fn read_exact<F: ReadAt>(
     ensures bytes { IfOk result (λ bytes. AreAt (F.bytes file.now) offset bytes.items) }
     ensures failure { IfErr result (λ fault. IfSome (F.bytes file.now) (λ all. offset + count ≤ length all
         → IsReadFailure (F.fails file.now) fault)) }
-    ensures input { IfErr result (IsOfFile input) }
 {
     let mut bytes = Vec::new(alloc);
     bytes.resize(count, 0)?;
@@ -119,8 +114,8 @@ pub(crate) fn read_exact<F: ReadAt>(
     'reads: while filled < count {
         let at = offset + filled as u64;
         match read_part(file, at, &mut bytes, filled, count - filled) {
-            Ok(0) => return Err(Fault::at(input, at, Reason::ReadFault)),
-            Err(Broken) => return Err(Fault::at(input, at, Reason::ReadFault)),
+            Ok(0) => return Err(Fault::at(0, at, Reason::ReadFault)),
+            Err(Broken) => return Err(Fault::at(0, at, Reason::ReadFault)),
             Ok(more) => filled += more,
         }
     }

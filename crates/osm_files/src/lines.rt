@@ -1,6 +1,5 @@
 //! The lines of an OPL file from an offset on.
-ghost use Rattle.std.specs.Prelude.{◌≡◌, ◌<◌, ◌≤◌, ◌^◌, length, IfOk, IfErr};
-ghost use Rattle.osm_files.specs.Fault.{IsOfFile};
+ghost use Rattle.std.specs.Prelude.{◌<◌, length, IfOk, IfErr};
 ghost use Rattle.osm_files.specs.FileRuns.{IsReadFailure};
 ghost use Rattle.osm_files.specs.Lines.{IsLineStart, IsFirstBetween};
 
@@ -29,44 +28,35 @@ const FAR: usize = 65536;
 ///
 /// # Errors
 ///
-/// `ReadFault` if the file can't be read. `input` is the file's number.
-pub fn line_start<F: ReadAt>(file: &F, input: usize, offset: u64, end: u64) -> Result<u64, Fault>
+/// `ReadFault` if the file can't be read. The fault has the number 0.
+pub fn line_start<F: ReadAt>(file: &F, offset: u64, end: u64) -> Result<u64, Fault>
     ensures start { IfOk result (IsLineStart (F.bytes file.now) offset end) }
     ensures refused { IfErr result (IsReadFailure (F.fails file.now)) }
-    ensures input { IfErr result (IsOfFile input) }
 {
     let near = offset.saturating_add(NEAR as u64).min(end);
-    let start = search(file, input, offset, near, &mut [0u8; NEAR])?;
+    let start = search(file, offset, near, &mut [0u8; NEAR])?;
     if start < near || near == end {
         return Ok(start);
     }
-    search_far(file, input, near, end)
+    search_far(file, near, end)
 }
 
 /// The result of [`line_start`] by large reads.
 ///
 /// This is a function of its own because of its buffer: most searches end in their first read, and don't pay for it.
 #[inline(never)]
-fn search_far<F: ReadAt>(file: &F, input: usize, offset: u64, end: u64) -> Result<u64, Fault>
+fn search_far<F: ReadAt>(file: &F, offset: u64, end: u64) -> Result<u64, Fault>
     ensures start { IfOk result (IsLineStart (F.bytes file.now) offset end) }
     ensures refused { IfErr result (IsReadFailure (F.fails file.now)) }
-    ensures input { IfErr result (IsOfFile input) }
 {
-    search(file, input, offset, end, &mut [0u8; FAR])
+    search(file, offset, end, &mut [0u8; FAR])
 }
 
 /// The result of [`line_start`] by reads into `buffer`.
-fn search<F: ReadAt>(
-    file: &F,
-    input: usize,
-    offset: u64,
-    end: u64,
-    buffer: &mut [u8],
-) -> Result<u64, Fault>
+fn search<F: ReadAt>(file: &F, offset: u64, end: u64, buffer: &mut [u8]) -> Result<u64, Fault>
     requires some { 0 < length buffer.old }
     ensures start { IfOk result (IsLineStart (F.bytes file.now) offset end) }
     ensures refused { IfErr result (IsReadFailure (F.fails file.now)) }
-    ensures input { IfErr result (IsOfFile input) }
 {
     if offset == 0 {
         return Ok(0);
@@ -78,7 +68,7 @@ fn search<F: ReadAt>(
         let count = match file.read_at(&mut buffer[..most], reached) {
             Ok(0) => return Ok(reached),
             Ok(count) => count,
-            Err(Broken) => return Err(Fault::at(input, reached, Reason::ReadFault)),
+            Err(Broken) => return Err(Fault::at(0, reached, Reason::ReadFault)),
         };
         if let Some(last) = find_line_end(&buffer[..count]) {
             return Ok(reached + last as u64 + 1);
@@ -94,21 +84,19 @@ fn search<F: ReadAt>(
 /// # Errors
 ///
 /// The reason why the first line that isn't skipped can't be read, at the line's offset in the file. `ReadFault` if the
-/// file can't be read; `TooLong` if `start` is 2^62 or more; or `Memory`. `input` is the file's number.
+/// file can't be read; `TooLong` if `start` is 2^62 or more; or `Memory`. The fault has the number 0.
 pub fn first_version<F: ReadAt>(
     alloc: Global,
     file: &F,
-    input: usize,
     start: u64,
     end: u64,
 ) -> Result<Option<Version>, Fault>
     ensures first { IsFirstBetween (F.fails file.now) (F.bytes file.now) start end result }
-    ensures input { IfErr result (IsOfFile input) }
 {
     if start >= LENGTH_LIMIT {
-        return Err(Fault::too_long(input));
+        return Err(Fault::too_long(0));
     }
-    let mut lines = Reading::of_lines(alloc, input, start, Extent::new(file, start, end));
+    let mut lines = Reading::of_lines(alloc, 0, start, Extent::new(file, start, end));
     lines.set_first_chunk_size(NEAR);
     let first = lines.next();
     drop(lines);

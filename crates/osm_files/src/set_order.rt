@@ -1,7 +1,6 @@
 //! The order of the data sets of an o5 file by their keys. The data sets are read in windows of the file, and the bytes
 //! of a data set after a window are skipped.
 ghost use Rattle.std.specs.Prelude.{◌≡◌, ◌+◌, ◌≤◌, ◌<◌, ◌^◌, ◌++◌, List, ℕ, length, IfOk, IfErr, IfSome};
-ghost use Rattle.osm_files.specs.Fault.{IsOfFile};
 ghost use Rattle.osm_files.specs.FileRuns.{IsReadFailure, IfWhole};
 ghost use Rattle.osm_files.specs.SetOrder as spec;
 
@@ -68,28 +67,26 @@ impl RisingSets {
 ///
 /// # Errors
 ///
-/// `ReadFault` if the file can't be read; or `Memory`. `input` is the file's number.
+/// `ReadFault` if the file can't be read; or `Memory`.
 pub(crate) fn order_of_run<F: ReadAt>(
     alloc: Global,
     file: &F,
-    input: usize,
     size: u64,
     run: SortedRun,
 ) -> Result<SetOrder, Fault>
     ensures order { IfWhole (F.bytes file.now) size (λ all. spec.IsOrderOfRun (F.fails file.now) all run result) }
-    ensures input { IfErr result (IsOfFile input) }
 {
     let end = run.start.saturating_add(run.size).min(size);
-    let Some(first) = first_set(alloc, file, input, run, end)? else {
+    let Some(first) = first_set(alloc, file, run, end)? else {
         return Ok(SetOrder::Unknown);
     };
-    let Some(last) = end_of_sets(file, input, run, end)? else {
+    let Some(last) = end_of_sets(file, run, end)? else {
         return Ok(SetOrder::Unknown);
     };
     if last < first {
         return Ok(SetOrder::Unknown);
     }
-    order_of_sets(alloc, file, input, first, last)
+    order_of_sets(alloc, file, first, last)
 }
 
 /// The offset of the first data set of a run that ends at the offset `end`, after the run's header; `None` if it has no
@@ -101,7 +98,6 @@ pub(crate) fn order_of_run<F: ReadAt>(
 fn first_set<F: ReadAt>(
     alloc: Global,
     file: &F,
-    input: usize,
     run: SortedRun,
     end: u64,
 ) -> Result<Option<u64>, Fault>
@@ -109,7 +105,6 @@ fn first_set<F: ReadAt>(
         IfSome (F.bytes file.now) (λ all. spec.HasHeader all run offset))) }
     ensures failure { IfErr result (λ fault. IfSome (F.bytes file.now) (λ all. end ≤ length all
         → IsReadFailure (F.fails file.now) fault)) }
-    ensures input { IfErr result (IsOfFile input) }
 {
     if run.lacks_header {
         return Ok(Some(run.start));
@@ -117,7 +112,7 @@ fn first_set<F: ReadAt>(
     if end < run.start || end - run.start < HEADER_LENGTH as u64 {
         return Ok(None);
     }
-    let header = read_exact(alloc, file, input, run.start, HEADER_LENGTH)?;
+    let header = read_exact(alloc, file, run.start, HEADER_LENGTH)?;
     if is_header(&header) {
         Ok(Some(run.start + HEADER_LENGTH as u64))
     } else {
@@ -131,16 +126,10 @@ fn first_set<F: ReadAt>(
 /// # Errors
 ///
 /// `ReadFault` if the file can't be read.
-fn end_of_sets<F: ReadAt>(
-    file: &F,
-    input: usize,
-    run: SortedRun,
-    end: u64,
-) -> Result<Option<u64>, Fault>
+fn end_of_sets<F: ReadAt>(file: &F, run: SortedRun, end: u64) -> Result<Option<u64>, Fault>
     ensures end { IfOk result (λ found. IfSome found (λ offset.
         IfSome (F.bytes file.now) (λ all. spec.HasEnd all run end offset))) }
     ensures failure { IfErr result (λ fault. IsReadFailure (F.fails file.now) fault) }
-    ensures input { IfErr result (IsOfFile input) }
 {
     if run.lacks_end {
         return Ok(Some(end));
@@ -151,7 +140,7 @@ fn end_of_sets<F: ReadAt>(
     match byte_at(file, end - 1) {
         Ok(Some(FILE_END)) => Ok(Some(end - 1)),
         Ok(_) => Ok(None),
-        Err(Broken) => Err(Fault::at(input, end - 1, Reason::ReadFault)),
+        Err(Broken) => Err(Fault::at(0, end - 1, Reason::ReadFault)),
     }
 }
 
@@ -159,17 +148,15 @@ fn end_of_sets<F: ReadAt>(
 ///
 /// # Errors
 ///
-/// `ReadFault` if the file can't be read or is shorter; or `Memory`. `input` is the file's number.
+/// `ReadFault` if the file can't be read or is shorter; or `Memory`.
 fn order_of_sets<F: ReadAt>(
     alloc: Global,
     file: &F,
-    input: usize,
     start: u64,
     end: u64,
 ) -> Result<SetOrder, Fault>
     ensures order { IfSome (F.bytes file.now) (λ all. end ≤ length all
         → spec.IsOrderOfSets (F.fails file.now) all start end result) }
-    ensures input { IfErr result (IsOfFile input) }
 {
     let mut sets = RisingSets {
         end: start,
@@ -178,7 +165,7 @@ fn order_of_sets<F: ReadAt>(
     };
     'windows: while sets.end < end {
         let count = (end - sets.end).min(WINDOW);
-        let bytes = read_exact(alloc, file, input, sets.end, count as usize)?;
+        let bytes = read_exact(alloc, file, sets.end, count as usize)?;
         match read_sets(&bytes, sets, end) {
             Ok(read) => {
                 if read.end == sets.end {

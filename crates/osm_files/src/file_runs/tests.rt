@@ -31,7 +31,7 @@ const WITHIN_A_SET: &[u8] =
 fn runs_text(alloc: Global, file: &[u8], most: usize) -> String {
     let mut text = String::new(alloc);
     let size = file.len() as u64;
-    match find_runs(alloc, &file, 3, size, most) {
+    match find_runs(alloc, &file, size, most) {
         Ok(Some(runs)) => {
             for run in &runs {
                 let given = given_text(
@@ -70,7 +70,7 @@ const RUNS: [(&[u8], usize, &str); 14] = [
     (
         b"n2 v1 dD\nn1 v1 dD\nn0\n",
         9,
-        "file 3, byte 18: NoVersion\n",
+        "file 0, byte 18: NoVersion\n",
     ),
     (
         b"n2 v1 dD\nn3 v1\nn1 v1 dD\n",
@@ -99,7 +99,7 @@ const RUNS: [(&[u8], usize, &str); 14] = [
         "0 false true\nfile 0, byte 7: BadReference\nfile 0, byte 0: Failed\nfile 0, byte 0: Failed\n\
         15 true false\nn1 v1 dV c0 t i0 u T x0.0000001 y0.0000002\nend\nend\nend\n",
     ),
-    (CUT_SET, 9, "file 3, byte 7: Truncated\n"),
+    (CUT_SET, 9, "file 0, byte 7: Truncated\n"),
 ];
 
 #[test]
@@ -112,8 +112,8 @@ fn runs_are_found(rt: HostRuntime) {
 #[test]
 fn a_file_that_became_shorter_is_refused(rt: HostRuntime) {
     let file = b"n1 v1 dD\n".as_slice();
-    match find_runs(rt.alloc(), &file, 3, 12, 9) {
-        Err(fault) => assert_eq!(rt; fault, Fault::at(3, 9, Reason::ReadFault)),
+    match find_runs(rt.alloc(), &file, 12, 9) {
+        Err(fault) => assert_eq!(rt; fault, Fault::at(0, 9, Reason::ReadFault)),
         Ok(_) => assert!(rt; false),
     }
 }

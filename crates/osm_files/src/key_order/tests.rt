@@ -35,7 +35,7 @@ impl ReadAt for Dripping<'_> {
 /// The offset of the first line of `file` from `start` on whose key is below the key before it, or the fault.
 fn order_text<F: ReadAt>(alloc: Global, file: &F, start: u64, end: u64) -> String {
     let mut text = String::new(alloc);
-    match first_falling(alloc, file, 3, start, end) {
+    match first_falling(alloc, file, start, end) {
         Ok(Some(offset)) => {
             let _ = write!(text, "{offset}");
         }
@@ -58,9 +58,9 @@ fn keys_decide(rt: HostRuntime) {
         (b"n2 v1 dD\n# end\n\nn1 dD v1", "16"),
         (b"n10 v1 dD\nn9 v1 dD\nn8 v1 dD", "10"),
         (b"w1 v1 dD\nn1 v1 dD", "9"),
-        (b"n1 v1 dD\nn1\nn0 v1", "file 3, byte 9: NoVersion\n"),
+        (b"n1 v1 dD\nn1\nn0 v1", "file 0, byte 9: NoVersion\n"),
         (b"n2 v1 dD\nn1 v1\nn3", "9"),
-        (b"n2 v1\nn3", "file 3, byte 6: NoVersion\n"),
+        (b"n2 v1\nn3", "file 0, byte 6: NoVersion\n"),
     ] {
         let end = file.len() as u64;
         assert_eq!(rt; order_text(rt.alloc(), &file, 0, end).as_str(), text);
@@ -80,8 +80,8 @@ fn the_lines_of_a_part_are_read(rt: HostRuntime) {
         (9, 36, 99, "27"),
         (9, 27, 99, "none"),
         (27, 9, 99, "none"),
-        (0, 37, 99, "file 3, byte 36: ReadFault\n"),
-        (0, 36, 20, "file 3, byte 20: ReadFault\n"),
+        (0, 37, 99, "file 0, byte 36: ReadFault\n"),
+        (0, 36, 20, "file 0, byte 20: ReadFault\n"),
     ] {
         let dripping = Dripping {
             bytes: file,

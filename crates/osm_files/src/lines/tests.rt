@@ -38,7 +38,7 @@ impl ReadAt for FailsFrom {
 /// version from there up to `end`.
 fn line_text<F: ReadAt>(alloc: Global, file: &F, offset: u64, end: u64) -> String {
     let mut text = String::new(alloc);
-    let start = match line_start(file, 3, offset, end) {
+    let start = match line_start(file, offset, end) {
         Ok(start) => start,
         Err(fault) => {
             let _ = write!(text, "{fault}");
@@ -46,7 +46,7 @@ fn line_text<F: ReadAt>(alloc: Global, file: &F, offset: u64, end: u64) -> Strin
         }
     };
     let _ = write!(text, "{start}: ");
-    match first_version(alloc, file, 3, start, end) {
+    match first_version(alloc, file, start, end) {
         Ok(Some(version)) => {
             let _ = write!(text, "{}", version.id());
         }
@@ -68,7 +68,7 @@ fn lines_from_an_offset(rt: HostRuntime) {
         (10, 40, "19: 2"),
         (20, 40, "28: 3"),
         (29, 40, "29: 3"),
-        (30, 40, "38: file 3, byte 38: NoVersion"),
+        (30, 40, "38: file 0, byte 38: NoVersion"),
         (39, 40, "40: none"),
         (50, 40, "40: none"),
         (0, 0, "0: none"),
@@ -85,11 +85,11 @@ fn lines_from_an_offset(rt: HostRuntime) {
 fn lines_of_a_failing_file(rt: HostRuntime) {
     for (broken, offset, end, text) in [
         (9, 0, 40, "0: 1"),
-        (8, 0, 40, "0: file 3, byte 8: ReadFault"),
-        (25, 1, 40, "9: file 3, byte 25: ReadFault"),
+        (8, 0, 40, "0: file 0, byte 8: ReadFault"),
+        (25, 1, 40, "9: file 0, byte 25: ReadFault"),
         (25, 1, 19, "9: none"),
         (28, 9, 40, "9: 2"),
-        (5, 1, 40, "file 3, byte 5: ReadFault"),
+        (5, 1, 40, "file 0, byte 5: ReadFault"),
         (5, 1, 5, "5: none"),
     ] {
         let file = FailsFrom { end: broken };

@@ -39,7 +39,7 @@ impl ReadAt for Dripping<'_> {
 /// The order of the data sets of a run of `file`, or the fault.
 fn order_text<F: ReadAt>(alloc: Global, file: &F, size: u64, run: SortedRun) -> String {
     let mut text = String::new(alloc);
-    match order_of_run(alloc, file, 3, size, run) {
+    match order_of_run(alloc, file, size, run) {
         Ok(SetOrder::Rises) => {
             let _ = text.push_str("rises");
         }
@@ -171,9 +171,9 @@ fn the_bytes_after_a_key_are_skipped(rt: HostRuntime) -> Result<(), Memory> {
         (
             WINDOW + 6 - 4095,
             1_000_011,
-            "file 3, byte 61447: ReadFault\n",
+            "file 0, byte 61447: ReadFault\n",
         ),
-        (WINDOW + 7, 1_000_012, "file 3, byte 1000011: ReadFault\n"),
+        (WINDOW + 7, 1_000_012, "file 0, byte 1000011: ReadFault\n"),
     ] {
         let file = Dripping {
             bytes,

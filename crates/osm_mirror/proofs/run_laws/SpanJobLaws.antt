@@ -12,12 +12,13 @@ use Rattle.osm_files.specs.declared.format.Format.{Format}
 use Rattle.osm_files.specs.declared.reason.Reason.TheVariants.{Memory}
 use Rattle.osm_files.specs.declared.end_rule.EndRule.{EndRule}
 use Rattle.osm_files.specs.Extent.{RunCanGive}
-use Rattle.osm_files.specs.Fault.{memory_fault, too_long_fault, fault_at, IsOfFile}
+use Rattle.osm_files.specs.Fault.{memory_fault, too_long_fault, fault_at}
 use Rattle.osm_files.specs.Held.{HoldsSorted}
 use Rattle.osm_files.specs.Input.{InputRest}
 use Rattle.osm_files.specs.Output.{Change, Appends}
 use Rattle.osm_files.specs.Sink.{CutShort, WhyCut}
 use Rattle.osm_files.specs.Spell.{spell}
+use Rattle.osm_files.proofs.RunOrderLaws.{moved_failure}
 use Rattle.osm_merge.specs.declared.merge.Counts.{Counts}
 use Rattle.osm_merge.specs.declared.span.Span.{Span}
 use Rattle.osm_merge.specs.declared.selection.Selection.{Selection}
@@ -43,6 +44,12 @@ use Rattle.osm_mirror.proofs.run_laws.FileExtentLaws.{found_is, good_is, fault_i
 use Rattle.osm_mirror.proofs.run_laws.FilesRefusalLaws.{at_is}
 use Rattle.osm_mirror.proofs.run_laws.OutputFaultLaws.{cut_why, long_of, output_number, output_also}
 use Rattle.osm_mirror.proofs.run_laws.FilesJobLaws.{as_pairs, pairwise_length}
+
+-- a refusal of a file that gets its number is one still
+pub numbered_refusal : (Fails : Type 0) (known : Option (List ℕ)) (number : ℕ) (fault : Fault) → IsFileRefusal Fails known fault
+    → IsFileRefusal Fails known (fault_at number fault.place fault.reason)
+numbered_refusal Fails known number fault (inl failure) = inl (moved_failure Fails number fault.place fault failure)
+numbered_refusal Fails known number fault (inr none) = inr none
 
 -- ---- lists that belong together
 -- two lists that belong to one list belong together
@@ -454,9 +461,10 @@ module _ {F : Type 0} (known : F → Option (List ℕ)) (fails : F → Type 0) w
   }
 
   -- ---- the files in a loop
-  -- a fault of the file of a number
+  -- a fault of the file of a number, which the job puts in
   pub one_refused : (IsOf : Type 0 → Option (List ℕ) → Fault → Type 0) (files : List F) (number : ℕ) (file : F) (fault : Fault)
-      → slice_get files number ≡ Some file → IsOfFile number fault → IsOf (fails file) (known file) fault
-      → AreRefused known fails IsOf files fault
-  one_refused IsOf files number file fault at (inl memory) of = inl memory
-  one_refused IsOf files number file fault at (inr input) of = inr (inl (file, ap (slice_get files) input ∙ at, of))
+      → slice_get files number ≡ Some file → IsOf (fails file) (known file) (fault_at number fault.place fault.reason)
+      → AreRefused known fails IsOf files (fault_at number fault.place fault.reason)
+  one_refused IsOf files number file fault at of =
+      ⊎_elim (λ memory. inl memory) (λ is. inr (inl (file, ap (slice_get files) is.input_is ∙ at, of)))
+      (at_is number fault.place fault.reason)

@@ -5,7 +5,6 @@ ghost use Rattle.std.specs.Prelude.{IfSome, if◌then◌else◌};
 ghost use Rattle.std.specs.List.Sorted.{IsPermutation};
 ghost use Rattle.osm_model.specs.Pairwise.{Pairwise};
 ghost use Rattle.osm_model.specs.VersionSet.{VersionSet};
-ghost use Rattle.osm_files.specs.Fault.{IsOfFile};
 ghost use Rattle.osm_files.specs.Held.{HoldsSorted};
 ghost use Rattle.osm_mirror.specs.run.Bounds.{is_opl, step_of, found_in_all, found_once, probe_count, total_weight};
 ghost use Rattle.osm_mirror.specs.run.Bounds.{bound_of};
@@ -60,7 +59,10 @@ fn total_size<F: ReadAt>(files: &[&F]) -> Result<u64, Fault>
 {
     let mut total = 0_u64;
     'files: for (input, file) in files.iter().enumerate() {
-        let size = opl_size(*file, input)?.unwrap_or(0);
+        let size = match opl_size(*file) {
+            Ok(size) => size.unwrap_or(0),
+            Err(fault) => return Err(fault.of_input(input)),
+        };
         if size >= LENGTH_LIMIT - total {
             return Err(Fault::too_long(input));
         }
@@ -78,7 +80,9 @@ fn probe_files<F: ReadAt>(alloc: Global, files: &[&F], step: u64) -> Result<Vec<
 {
     let mut found = Vec::new(alloc);
     'files: for (input, file) in files.iter().enumerate() {
-        probe_file(alloc, *file, input, step, &mut found)?;
+        if let Err(fault) = probe_file(alloc, *file, step, &mut found) {
+            return Err(fault.of_input(input));
+        }
     }
     Ok(found)
 }
@@ -87,17 +91,15 @@ fn probe_files<F: ReadAt>(alloc: Global, files: &[&F], step: u64) -> Result<Vec<
 fn probe_file<F: ReadAt>(
     alloc: Global,
     file: &F,
-    input: usize,
     step: u64,
     found: &mut Vec<Found>,
 ) -> Result<(), Fault>
     requires some { 0 < step }
     ensures found { OnOk result (FindsIn (F.bytes file.now) step found.old.items found.new.items) }
     ensures refused { IfErr result (IsFileRefusal (F.fails file.now) (F.bytes file.now)) }
-    ensures input { IfErr result (IsOfFile input) }
 {
-    match opl_size(file, input)? {
-        Some(size) => probe_lines(alloc, file, input, size, step, found),
+    match opl_size(file)? {
+        Some(size) => probe_lines(alloc, file, size, step, found),
         None => Ok(()),
     }
 }
@@ -108,7 +110,6 @@ fn probe_file<F: ReadAt>(
 fn probe_lines<F: ReadAt>(
     alloc: Global,
     file: &F,
-    input: usize,
     size: u64,
     step: u64,
     found: &mut Vec<Found>,
@@ -117,14 +118,13 @@ fn probe_lines<F: ReadAt>(
     requires size { IfSome (F.bytes file.now) (λ all. (is_opl all ≡ true) × (size ≡ length all)) }
     ensures found { OnOk result (FindsBy (F.bytes file.now) size step found.old.items found.new.items) }
     ensures refused { IfErr result (IsFileRefusal (F.fails file.now) (F.bytes file.now)) }
-    ensures input { IfErr result (IsOfFile input) }
 {
     let mut lines = LinesFrom::at_end(size);
     let mut left = probe_count(step, size);
     'probes: while left > 0 {
         left -= 1;
         let offset = probe_offset(left, step, size);
-        lines = lines_before(alloc, file, input, offset, lines)?;
+        lines = lines_before(alloc, file, offset, lines)?;
         push_found(lines.object, step.min(size - offset), found)?;
     }
     Ok(())

@@ -1,6 +1,5 @@
 //! The offset at which an OPL file is cut at an object, so that each of several jobs reads only its slice of the file.
 ghost use Rattle.std.specs.Prelude.{◌≡◌, IfOk, IfErr};
-ghost use Rattle.osm_files.specs.Fault.{IsOfFile};
 ghost use Rattle.osm_files.specs.FileRuns.{IsReadFailure};
 ghost use Rattle.osm_mirror.specs.run.CutOffset.{IsCutOf, BeginsLinesOf, IsCutRefusal, BeginsAs};
 ghost use Rattle.osm_mirror.specs.run.LinesFrom.{is_below};
@@ -22,35 +21,29 @@ use std::alloc::Global;
 /// # Errors
 ///
 /// The reason why a line that the search reads can't be read, at the line's offset. `ReadFault` if the file can't be
-/// read; `TooLong`; or `Memory`. `input` is the file's number.
-pub fn cut_offset<F: ReadAt>(
-    alloc: Global,
-    file: &F,
-    input: usize,
-    bound: Object,
-) -> Result<u64, Fault>
+/// read; `TooLong`; or `Memory`. The fault has the number 0.
+pub fn cut_offset<F: ReadAt>(alloc: Global, file: &F, bound: Object) -> Result<u64, Fault>
     ensures cut { IfOk result (IsCutOf (F.bytes file.now) bound) }
     ensures begins { IfOk result (BeginsLinesOf (F.bytes file.now)) }
     ensures refused { IfErr result (IsCutRefusal (F.fails file.now) (F.bytes file.now)) }
-    ensures input { IfErr result (IsOfFile input) }
 {
     let mut low = 0_u64;
     let mut high = match file.size() {
         Ok(size) => LinesFrom::at_end(size),
-        Err(Broken) => return Err(Fault::at(input, 0, Reason::ReadFault)),
+        Err(Broken) => return Err(Fault::at(0, 0, Reason::ReadFault)),
     };
     // The versions whose lines begin before `low` are below the bound; those of the lines `high` are not.
     'halves: while low < high.offset {
         let middle = low + (high.offset - low) / 2;
-        let lines = lines_before(alloc, file, input, middle, high)?;
+        let lines = lines_before(alloc, file, middle, high)?;
         if is_below(lines.object, bound) {
             low = lines.start.clamp(middle, high.offset - 1) + 1;
         } else {
             high = lines;
         }
     }
-    if begins_as_o5(file, input, high.start)? {
-        return Err(Fault::at(input, high.start, Reason::Opl(OplReason::NotUtf8)));
+    if begins_as_o5(file, high.start)? {
+        return Err(Fault::at(0, high.start, Reason::Opl(OplReason::NotUtf8)));
     }
     Ok(high.start)
 }
@@ -66,16 +59,15 @@ fn is_below(object: Option<Object>, bound: Object) -> bool
 }
 
 /// Whether the bytes of a file from `offset` on begin as an o5 file does. No line of an OPL file begins so.
-pub(crate) fn begins_as_o5<F: ReadAt>(file: &F, input: usize, offset: u64) -> Result<bool, Fault>
+pub(crate) fn begins_as_o5<F: ReadAt>(file: &F, offset: u64) -> Result<bool, Fault>
     ensures begins { IfOk result (BeginsAs (F.bytes file.now) offset) }
     ensures refused { IfErr result (IsReadFailure (F.fails file.now)) }
-    ensures input { IfErr result (IsOfFile input) }
 {
     let mut byte = [0u8; 1];
     match file.read_at(&mut byte, offset) {
         Ok(0) => Ok(false),
         Ok(_) => Ok(byte[0] == O5_START),
-        Err(Broken) => Err(Fault::at(input, offset, Reason::ReadFault)),
+        Err(Broken) => Err(Fault::at(0, offset, Reason::ReadFault)),
     }
 }
 

@@ -3,7 +3,6 @@
 //! Why: searches that look at earlier and earlier offsets read no stretch of a file again. All probes together read a
 //! file with 64 MB of comments about twice, and each of 64 probes read it before.
 ghost use Rattle.std.specs.Prelude.{◌≡◌, ◌≤◌, None, IfOk, IfErr};
-ghost use Rattle.osm_files.specs.Fault.{IsOfFile};
 ghost use Rattle.osm_mirror.specs.run.CutOffset.{IsCutRefusal};
 ghost use Rattle.osm_mirror.specs.run.LinesFrom.{AreLinesOf};
 
@@ -43,11 +42,10 @@ impl LinesFrom {
 /// # Errors
 ///
 /// The reason why a line that the search reads can't be read, at the line's offset. `ReadFault` if the file can't be
-/// read; `TooLong`; or `Memory`. `input` is the file's number.
+/// read; `TooLong`; or `Memory`. The fault has the number 0.
 pub(crate) fn lines_before<F: ReadAt>(
     alloc: Global,
     file: &F,
-    input: usize,
     offset: u64,
     later: LinesFrom,
 ) -> Result<LinesFrom, Fault>
@@ -56,9 +54,8 @@ pub(crate) fn lines_before<F: ReadAt>(
     ensures lines { IfOk result (AreLinesOf (F.bytes file.now)) }
     ensures offset { IfOk result (λ lines. lines.offset ≡ offset) }
     ensures refused { IfErr result (IsCutRefusal (F.fails file.now) (F.bytes file.now)) }
-    ensures input { IfErr result (IsOfFile input) }
 {
-    let start = line_start(file, input, offset, later.offset)?;
+    let start = line_start(file, offset, later.offset)?;
     if start >= later.offset {
         return Ok(LinesFrom {
             offset,
@@ -66,7 +63,7 @@ pub(crate) fn lines_before<F: ReadAt>(
             object: later.object,
         });
     }
-    let object = match first_version(alloc, file, input, start, later.start)? {
+    let object = match first_version(alloc, file, start, later.start)? {
         Some(version) => Some(Object::of(&version)),
         None => later.object,
     };

@@ -1,6 +1,5 @@
 //! The extent of a file that a job for a shard reads.
 ghost use Rattle.std.specs.Prelude.{◌≡◌, ◌<◌, true, false, length, IfOk, IfErr, IfSome};
-ghost use Rattle.osm_files.specs.Fault.{IsOfFile};
 ghost use Rattle.osm_files.specs.FileRuns.{IsReadFailure};
 ghost use Rattle.osm_merge.specs.Slice.{is_ascending};
 ghost use Rattle.osm_mirror.specs.run.CutOffset.{BeginsAs, IsCutRefusal};
@@ -28,27 +27,25 @@ pub(crate) struct FileExtent {
 }
 
 /// The size of a file if it is OPL, or none if it is o5.
-pub(crate) fn opl_size<F: ReadAt>(file: &F, input: usize) -> Result<Option<u64>, Fault>
+pub(crate) fn opl_size<F: ReadAt>(file: &F) -> Result<Option<u64>, Fault>
     ensures size { IfOk result (IsOplSize (F.bytes file.now)) }
     ensures refused { IfErr result (IsReadFailure (F.fails file.now)) }
-    ensures input { IfErr result (IsOfFile input) }
 {
-    if begins_as_o5(file, input, 0)? {
+    if begins_as_o5(file, 0)? {
         Ok(None)
     } else {
-        Ok(Some(size_of(file, input)?))
+        Ok(Some(size_of(file)?))
     }
 }
 
 /// The size of a file.
-fn size_of<F: ReadAt>(file: &F, input: usize) -> Result<u64, Fault>
+fn size_of<F: ReadAt>(file: &F) -> Result<u64, Fault>
     ensures size { IfOk result (λ size. IfSome (F.bytes file.now) (λ all. size ≡ length all)) }
     ensures refused { IfErr result (IsReadFailure (F.fails file.now)) }
-    ensures input { IfErr result (IsOfFile input) }
 {
     match file.size() {
         Ok(size) => Ok(size),
-        Err(Broken) => Err(Fault::at(input, 0, Reason::ReadFault)),
+        Err(Broken) => Err(Fault::at(0, 0, Reason::ReadFault)),
     }
 }
 
@@ -58,30 +55,24 @@ fn size_of<F: ReadAt>(file: &F, input: usize) -> Result<u64, Fault>
 /// # Errors
 ///
 /// `Unsorted` at 0 if the lines within `span` would end before they begin, which is so in an unsorted file only; or the
-/// fault of a search for an offset.
-pub(crate) fn extent_of<F: ReadAt>(
-    alloc: Global,
-    file: &F,
-    input: usize,
-    span: Span,
-) -> Result<FileExtent, Fault>
+/// fault of a search for an offset. The fault has the number 0.
+pub(crate) fn extent_of<F: ReadAt>(alloc: Global, file: &F, span: Span) -> Result<FileExtent, Fault>
     requires ascends { is_ascending span ≡ true }
     ensures extent { IfOk result (IsExtentOf span (F.bytes file.now)) }
     ensures refused { IfErr result (IsFileRefusal (F.fails file.now) (F.bytes file.now)) }
-    ensures input { IfErr result (IsOfFile input) }
 {
-    let size = size_of(file, input)?;
-    if is_read_whole(file, input, size)? {
+    let size = size_of(file)?;
+    if is_read_whole(file, size)? {
         return Ok(FileExtent {
             run: SortedRun::whole(),
             size,
             outside: Outside::Dropped,
         });
     }
-    let start = begin(alloc, file, input, span.from)?;
-    let end = end(alloc, file, input, span.to, size)?;
+    let start = begin(alloc, file, span.from)?;
+    let end = end(alloc, file, span.to, size)?;
     if end < start {
-        return Err(Fault::at(input, 0, Reason::Unsorted));
+        return Err(Fault::at(0, 0, Reason::Unsorted));
     }
     let run = SortedRun {
         start,
@@ -97,49 +88,35 @@ pub(crate) fn extent_of<F: ReadAt>(
 }
 
 /// Whether a file of `size` bytes is read whole. An o5 file is, and a small one.
-fn is_read_whole<F: ReadAt>(file: &F, input: usize, size: u64) -> Result<bool, Fault>
+fn is_read_whole<F: ReadAt>(file: &F, size: u64) -> Result<bool, Fault>
     ensures lines { IfOk result (λ is_whole. is_whole ≡ false → BeginsAs (F.bytes file.now) 0 false) }
     ensures refused { IfErr result (IsReadFailure (F.fails file.now)) }
-    ensures input { IfErr result (IsOfFile input) }
 {
     if size <= SMALL_SIZE {
         return Ok(true);
     }
-    begins_as_o5(file, input, 0)
+    begins_as_o5(file, 0)
 }
 
 /// The offset at which the lines from a lower bound on begin.
-fn begin<F: ReadAt>(
-    alloc: Global,
-    file: &F,
-    input: usize,
-    bound: Option<Object>,
-) -> Result<u64, Fault>
+fn begin<F: ReadAt>(alloc: Global, file: &F, bound: Option<Object>) -> Result<u64, Fault>
     ensures begins { IfOk result (BeginsAtOf (F.bytes file.now) bound) }
     ensures refused { IfErr result (IsCutRefusal (F.fails file.now) (F.bytes file.now)) }
-    ensures input { IfErr result (IsOfFile input) }
 {
     match bound {
         None => Ok(0),
-        Some(bound) => cut_offset(alloc, file, input, bound),
+        Some(bound) => cut_offset(alloc, file, bound),
     }
 }
 
 /// The offset at which the lines below an upper bound end, in a file of `size` bytes.
-fn end<F: ReadAt>(
-    alloc: Global,
-    file: &F,
-    input: usize,
-    bound: Option<Object>,
-    size: u64,
-) -> Result<u64, Fault>
+fn end<F: ReadAt>(alloc: Global, file: &F, bound: Option<Object>, size: u64) -> Result<u64, Fault>
     requires size { IfSome (F.bytes file.now) (λ all. size ≡ length all) }
     ensures ends { IfOk result (EndsAtOf (F.bytes file.now) bound) }
     ensures refused { IfErr result (IsCutRefusal (F.fails file.now) (F.bytes file.now)) }
-    ensures input { IfErr result (IsOfFile input) }
 {
     match bound {
         None => Ok(size),
-        Some(bound) => cut_offset(alloc, file, input, bound),
+        Some(bound) => cut_offset(alloc, file, bound),
     }
 }

@@ -215,7 +215,10 @@ fn open_extents<'f, F: ReadAt>(
         return Ok(inputs);
     };
     'files: for (input, file) in files.iter().enumerate() {
-        let extent = extent_of(alloc, *file, input, span)?;
+        let extent = match extent_of(alloc, *file, span) {
+            Ok(extent) => extent,
+            Err(fault) => return Err(fault.of_input(input)),
+        };
         extents.push(extent)?;
         inputs.push(open_extent(*file, span, extent))?;
     }

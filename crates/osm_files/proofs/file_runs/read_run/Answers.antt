@@ -14,7 +14,7 @@ pub returns-then-eq-clause-order : goal.returns-then-eq-clause-order
 returns-then-eq-clause-order g c =
     let file = c.args.file.now in
     let stops = c.in-Err.ensures.refused in
-    read_unsorted (g.F.ReadAt.fails file) c.args.run c.args.size c.args.input c.offset_in_file-offset.result c.in-Err.fault
+    read_unsorted (g.F.ReadAt.fails file) c.args.run c.args.size 0 c.offset_in_file-offset.result c.in-Err.fault
     (g.F.ReadAt.bytes file) (stops.0, (c.of_run.ensures stops.0).0 stops.1, stops.2) (search rules)
     c.offset_in_file-offset.ensures
 
@@ -23,7 +23,7 @@ returns-else-eq-clause-order g c =
     let file = c.args.file.now in
     let stops = c.in-Err.ensures.refused in
     rw c.at.ensures
-    (read_refused (g.F.ReadAt.fails file) c.args.run c.args.size c.args.input c.offset_in_file-offset.result c.in-Err.fault
+    (read_refused (g.F.ReadAt.fails file) c.args.run c.args.size 0 c.offset_in_file-offset.result c.in-Err.fault
     (g.F.ReadAt.bytes file) (stops.0, (c.of_run.ensures stops.0).0 stops.1, stops.2)
     (λ unsorted. false≢true (sym c.if-eq.false ∙ search (unsorted, rules))))
 
@@ -31,5 +31,5 @@ pub returns-else-eq-clause-failure : goal.returns-else-eq-clause-failure
 returns-else-eq-clause-failure g c = λ is.
     let file = c.args.file.now in
     let stops = c.in-Err.ensures.refused in
-    read_failed (g.F.ReadAt.fails file) c.args.run c.args.size c.args.input c.offset_in_file-offset.result c.in-Err.fault
+    read_failed (g.F.ReadAt.fails file) c.args.run c.args.size 0 c.offset_in_file-offset.result c.in-Err.fault
     (g.F.ReadAt.bytes file) (stops.0, (c.of_run.ensures stops.0).0 stops.1, stops.2) (ap (λ f. f.reason) (sym c.at.ensures) ∙ is)

@@ -14,13 +14,13 @@ pub returns-clause-sorted : goal.returns-clause-sorted
 returns-clause-sorted g c =
     let can = g.R.Input.can_give in
     on_ok_weaker c.read_to_end-outcome.result
-    (λ ends. source_sorted can c.args.input c.args.reader (subst (EndsWhole (FileCanGive can)) c.in_ok-source.ensures.opened ends))
+    (λ ends. source_sorted can 0 c.args.reader (subst (EndsWhole (FileCanGive can)) c.in_ok-source.ensures.opened ends))
     c.read_to_end-outcome.ensures.whole
 
 pub returns-clause-refused : goal.returns-clause-refused
 returns-clause-refused g c =
     let can = g.R.Input.can_give in
     IfErr-weaker c.read_to_end-outcome.result _ _
-    (λ fault stops. source_stops can g.R.Input.one g.R.Input.possible c.args.input c.args.reader fault
+    (λ fault stops. source_stops can g.R.Input.one g.R.Input.possible 0 c.args.reader fault
     (subst (λ s. StopsSource (FileCanGive can) s fault) c.in_ok-source.ensures.opened stops))
     c.read_to_end-outcome.ensures.refused

@@ -48,8 +48,8 @@ windows-preserved g c =
           c.windows.invariant.3 c.in-Ok.ensures.read),
     )
 
-pub returns-in-Err-clause-order : goal.returns-in-Err-clause-order
-returns-in-Err-clause-order g c =
+pub returns-in-Err : goal.returns-in-Err
+returns-in-Err g c =
     let known = g.F.ReadAt.bytes c.args.file.now in
     let Fails = g.F.ReadAt.fails c.args.file.now in
     let lines = c.windows.lines in
@@ -61,11 +61,15 @@ returns-in-Err-clause-order g c =
     let fits : lines.end + length window ≤ c.args.end = omega (arith, long, c.min-count.ensures, less) in
     let all_there : nat_eq count left ≡ true → lines.end + length window ≡ c.args.end =
     λ last. (let e = eqb-true count left last in omega (arith, long, e, less)) in
-    rw c.outcome.ensures (window_stops c.args.start c.args.end lines window (nat_eq count left) c.windows.invariant.0 less fits all_there
-    Fails c.args.input known c.in-Err.stop (subst (AreAt known lines.end) (sym c.deref.ensures.value) c.in_ok-bytes.ensures.bytes)
-    c.windows.invariant.3 c.in-Err.ensures.read)
+    record {
+      order = rw c.outcome.ensures (window_stops c.args.start c.args.end lines window (nat_eq count left) c.windows.invariant.0 less fits all_there
+          Fails known c.in-Err.stop (subst (AreAt known lines.end) (sym c.deref.ensures.value) c.in_ok-bytes.ensures.bytes)
+          c.windows.invariant.3 c.in-Err.ensures.read);
+    }
 
-pub returns-clause-order : goal.returns-clause-order
-returns-clause-order g c =
-    all_risen (g.F.ReadAt.bytes c.args.file.now) c.args.start c.args.end c.windows.lines
-    (omega (arith, c.windows.invariant.0, c.windows.invariant.1, c.windows-test.false)) c.windows.invariant.3
+pub returns : goal.returns
+returns g c =
+    record {
+      order = all_risen (g.F.ReadAt.bytes c.args.file.now) c.args.start c.args.end c.windows.lines
+          (omega (arith, c.windows.invariant.0, c.windows.invariant.1, c.windows-test.false)) c.windows.invariant.3;
+    }

@@ -41,7 +41,7 @@ impl ReadAt for FailsFrom {
 /// The offset at which `file` is cut at the object of the kind `kind` with the id `id`.
 fn cut_text<F: ReadAt>(alloc: Global, file: &F, kind: Kind, id: i64) -> String {
     let mut text = String::new(alloc);
-    match cut_offset(alloc, file, 2, Object { kind, id }) {
+    match cut_offset(alloc, file, Object { kind, id }) {
         Ok(offset) => {
             let _ = write!(text, "{offset}");
         }
@@ -66,13 +66,13 @@ fn files_are_cut_at_objects(rt: HostRuntime) {
             b"n1 v1 dD\n\xff".as_slice(),
             Kind::Node,
             2,
-            "file 2, byte 9: NotUtf8",
+            "file 0, byte 9: NotUtf8",
         ),
         (
             b"n1\n".as_slice(),
             Kind::Node,
             2,
-            "file 2, byte 0: NoVersion",
+            "file 0, byte 0: NoVersion",
         ),
     ] {
         assert_eq!(rt; cut_text(rt.alloc(), &file, kind, id).as_str(), text);
@@ -83,10 +83,10 @@ fn files_are_cut_at_objects(rt: HostRuntime) {
 fn a_failing_file_is_refused(rt: HostRuntime) {
     for (end, kind, id, text) in [
         (Some(39u64), Kind::Node, 2, "18"),
-        (Some(39), Kind::Relation, 1, "file 2, byte 39: ReadFault"),
-        (Some(20), Kind::Node, 2, "file 2, byte 20: ReadFault"),
-        (Some(0), Kind::Node, 1, "file 2, byte 18: ReadFault"),
-        (None, Kind::Node, 1, "file 2, byte 0: ReadFault"),
+        (Some(39), Kind::Relation, 1, "file 0, byte 39: ReadFault"),
+        (Some(20), Kind::Node, 2, "file 0, byte 20: ReadFault"),
+        (Some(0), Kind::Node, 1, "file 0, byte 18: ReadFault"),
+        (None, Kind::Node, 1, "file 0, byte 0: ReadFault"),
     ] {
         let file = FailsFrom { end };
         assert_eq!(rt; cut_text(rt.alloc(), &file, kind, id).as_str(), text);

@@ -72,7 +72,7 @@ fn searches(alloc: Global, bytes: Vec<u8>) -> String {
     for id in 1..4 {
         let _ = text.push_str(mark(&file, most));
         let kind = Kind::Way;
-        match cut_offset(alloc, &file, 0, Object { kind, id }) {
+        match cut_offset(alloc, &file, Object { kind, id }) {
             Ok(offset) => {
                 let _ = write!(text, "{offset}");
             }

@@ -1,10 +1,9 @@
 use Rattle.std.proofs.Common.{List, ℕ, Option, take, Bor, arith, sym, subst}
 use Rattle.std.proofs.lemmas.List.{take_all}
-use Rattle.std.proofs.lemmas.Result.{err_from_is_err_and}
 use Rattle.osm_files.proofs.SinkLaws.{front_at}
 use Rattle.osm_mirror.specs.run.Probes.{FindsInAll}
 use Rattle.osm_mirror.proofs.run_laws.ProbeLaws.{all_more}
-use Rattle.osm_mirror.proofs.run_laws.SpanJobLaws.{one_refused}
+use Rattle.osm_mirror.proofs.run_laws.SpanJobLaws.{one_refused, numbered_refusal}
 use Rattle.osm_mirror.proofs.run_laws.WayLaws.{get_slice}
 use Rattle.osm_mirror.specs.run.ShardRefusal.{IsFileRefusal}
 use Rattle.osm_mirror.proofs.run.bounds.probe_files.Goals as goal
@@ -26,13 +25,12 @@ returns-clause-found g c =
     let whole = take_all c.files.input files (omega (arith, c.files-test.false)) in
     subst (λ fs. FindsInAll known c.args.step fs c.files.found.items) whole c.files.invariant
 
-pub returns-in_err-probe_file-clause-refused : goal.returns-in_err-probe_file-clause-refused
-returns-in_err-probe_file-clause-refused g c =
+pub returns-in-Err-clause-refused : goal.returns-in-Err-clause-refused
+returns-in-Err-clause-refused g c =
     let known : Bor g.row.F.Denot → Option (List ℕ) = λ file. g.F.ReadAt.bytes file.now in
     let fails : Bor g.row.F.Denot → Type 0 = λ file. g.F.ReadAt.fails file.now in
     let files = c.args.files.now in
     let file = c.index-files-input.result in
     let at = get_slice files c.files.input file (omega (arith, c.files-test.true)) c.index-files-input.is in
-    let p = err_from_is_err_and c.from_residual.result c.from_residual.ensures.1 in
-    rw (p.1, p.2) (one_refused known fails IsFileRefusal files c.files.input file _ at c.in_err-probe_file.ensures.input
-    c.in_err-probe_file.ensures.refused)
+    rw c.of_input.ensures (one_refused known fails IsFileRefusal files c.files.input file c.in-Err.fault at
+    (numbered_refusal (fails file) (known file) c.files.input c.in-Err.fault c.in-Err.ensures.refused))

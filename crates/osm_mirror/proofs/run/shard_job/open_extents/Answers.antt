@@ -1,5 +1,4 @@
 use Rattle.std.proofs.Common.{List, ◌∷◌, ◌++◌, [], ℕ, Option, take, length, Bor, arith, sym, ap, subst, length-append}
-use Rattle.std.proofs.lemmas.Result.{err_from_is_err_and}
 use Rattle.std.proofs.lemmas.List.{take_all}
 use Rattle.osm_files.specs.FileInput.{FramedCanGive}
 use Rattle.osm_files.proofs.SinkLaws.{front_at}
@@ -8,7 +7,7 @@ use Rattle.osm_model.proofs.PairwiseLaws.{pairwise_push}
 use Rattle.osm_mirror.specs.run.ShardExtent.{IsInputOf, AreInputsOf}
 use Rattle.osm_mirror.specs.run.ShardRefusal.{IsFileRefusal}
 use Rattle.osm_mirror.proofs.run_laws.WayLaws.{get_slice}
-use Rattle.osm_mirror.proofs.run_laws.SpanJobLaws.{one_refused}
+use Rattle.osm_mirror.proofs.run_laws.SpanJobLaws.{one_refused, numbered_refusal}
 use Rattle.osm_mirror.proofs.run.shard_job.open_extents.Goals as goal
 
 pub files-preserved : goal.files-preserved
@@ -31,20 +30,19 @@ files-preserved g c =
         ap length pushed,
         ap length c.in_ok-push.ensures.items,
         length-append c.files.inputs.items (c.open_extent.result ∷ []),
-        length-append c.files.extents.items (c.in_ok-extent.extent ∷ []),
+        length-append c.files.extents.items (c.in-Ok.extent ∷ []),
       ),
     )
 
-pub returns-in_err-extent-clause-refused : goal.returns-in_err-extent-clause-refused
-returns-in_err-extent-clause-refused g c =
+pub returns-in-Err-clause-refused : goal.returns-in-Err-clause-refused
+returns-in-Err-clause-refused g c =
     let known : Bor g.row.F.Denot → Option (List ℕ) = λ file. g.F.ReadAt.bytes file.now in
     let fails : Bor g.row.F.Denot → Type 0 = λ file. g.F.ReadAt.fails file.now in
     let files = c.args.files.now in
     let file = c.index-files-input.result in
     let at = get_slice files c.files.input file (omega (arith, c.files-test.true)) c.index-files-input.is in
-    let p = err_from_is_err_and c.from_residual.result c.from_residual.ensures.1 in
-    rw (p.1, p.2) (one_refused known fails IsFileRefusal files c.files.input file _ at c.in_err-extent.ensures.input
-    c.in_err-extent.ensures.refused)
+    rw c.of_input.ensures (one_refused known fails IsFileRefusal files c.files.input file c.in-Err.fault at
+    (numbered_refusal (fails file) (known file) c.files.input c.in-Err.fault c.in-Err.ensures.refused))
 
 pub returns-clause-inputs : goal.returns-clause-inputs
 returns-clause-inputs g c =
