@@ -4,6 +4,7 @@
 mod content;
 mod files;
 mod history;
+mod jobs;
 mod line;
 mod reads;
 mod selected;
@@ -12,6 +13,7 @@ mod whole;
 pub use content::first_version;
 pub use files::to_o5m;
 pub use history::with_version;
+pub use jobs::{map_of_reads, part_of_map};
 pub use line::canonical;
 pub use reads::one_file_of_reads;
 pub use selected::visible_map;

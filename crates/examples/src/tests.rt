@@ -1,8 +1,10 @@
 //! Tests of each caller with input that has no fault.
 use crate::{
-    canonical, first_version, one_file, one_file_of_reads, to_o5m, visible_map, with_version,
+    canonical, first_version, map_of_reads, one_file, one_file_of_reads, part_of_map, to_o5m,
+    visible_map, with_version,
 };
-use osm_files::{Broken, Reason, Recorded, SliceIn, load_any};
+use osm_files::{Broken, EndRule, Reason, Recorded, SliceIn, load_any};
+use osm_mirror::{JobInput, Shard};
 use osm_model::{History, Kind};
 use std::test::Fail;
 
@@ -53,6 +55,31 @@ fn reads_are_replayed(rt: HostRuntime) -> Result<(), Fail> {
         (fault.input, fault.place, fault.reason),
         (1, 7, Reason::ReadFault)
     );
+    Ok(())
+}
+
+#[test]
+fn a_map_is_made_of_reads(rt: HostRuntime) -> Result<(), Fail> {
+    let (front, rest) = LINES.split_at(7);
+    let reads = [Ok(front), Ok(rest)];
+    let inputs = [JobInput {
+        note: (),
+        regular: Some(Recorded::new(&reads)),
+        end: EndRule::Any,
+    }];
+    let map = map_of_reads(rt.alloc(), inputs.as_slice())?;
+    assert_eq!(rt; map.as_slice(), b"n2 v1 dV c0 t i0 u T x1 y2\n".as_slice());
+    Ok(())
+}
+
+#[test]
+fn the_parts_of_a_map_are_the_map(rt: HostRuntime) -> Result<(), Fail> {
+    let mut map = Vec::new(rt.alloc());
+    for number in 1..=2 {
+        let part = part_of_map(rt.alloc(), Shard { number, count: 2 }, &[&LINES])?;
+        map.extend_from_slice(part.as_slice())?;
+    }
+    assert_eq!(rt; map.as_slice(), b"n2 v1 dV c0 t i0 u T x1 y2\n".as_slice());
     Ok(())
 }
 
