@@ -18,11 +18,11 @@ mod target;
 use clap::{ArgMatches, Error};
 use command::{ALL_REASONS, command};
 use file_check::check_files;
-use file_run::run_job;
+use file_run::make_output;
 use osm_mirror::{Escaped, Explanation, ReasonList};
 use plan_run::run_plan;
 pub(crate) use refusal::Refusal;
-use request::{Request, read_list};
+use request::Request;
 use std::alloc::{AllocGlobal, Global};
 use std::convert::AsStr;
 use std::fs::File;
@@ -67,22 +67,22 @@ where
     } else {
         parse(rt.alloc(), arguments)
     };
-    match parsed {
+    let outcome = match parsed {
         Ok(matches) => match matches.subcommand() {
-            Some((name, matches)) => run_command(rt, name, matches, stdin, &mut out, &mut err),
-            None => {
-                let printed = print_explanation(rt.alloc(), matches.get_str("explain"), &mut out);
-                status_of(rt, printed, &mut err)
+            Some((name, matches)) => {
+                return run_command(rt, name, matches, stdin, &mut out, &mut err);
             }
+            None => print_explanation(rt.alloc(), matches.get_str("explain"), &mut out),
         },
-        Err(help) if !help.use_stderr() => {
-            status_of(rt, print_help(rt.alloc(), &help, &mut out), &mut err)
-        }
+        Err(help) if !help.use_stderr() => print_help(rt.alloc(), &help, &mut out),
         Err(mistake) => {
             let shown = escaped_mistake(rt.alloc(), arguments).filter(|_| err.is_terminal());
-            let mistake = Refusal::of_arguments(shown.unwrap_or(mistake));
-            hint::report(rt, &mistake, &mut err, false)
+            Err(Refusal::of_arguments(shown.unwrap_or(mistake)))
         }
+    };
+    match outcome {
+        Ok(()) => 0,
+        Err(refusal) => hint::report(rt, &refusal, &mut err, false),
     }
 }
 
@@ -110,59 +110,38 @@ fn run_command<I: Read + Drop, O: Write + IsTerminal, E: Write + IsTerminal>(
     out: &mut O,
     err: &mut E,
 ) -> u8 {
-    let hints = matches.get_flag("hints");
     if name == "plan" {
         return run_plan(rt, matches, out, err);
     }
-    match Request::of_matches(rt.alloc(), name, matches) {
-        Ok(request) => run_request(rt, request, stdin, out, err, hints),
+    let hints = matches.get_flag("hints");
+    let mut stdin = Some(stdin);
+    match Request::of_matches(rt, name, matches, &mut stdin) {
+        Ok(request) => match run_request(rt, &request, stdin, out, err) {
+            Ok(status) => status,
+            Err(refusal) => hint::report(rt, &refusal, err, hints),
+        },
         Err(refusal) => hint::report(rt, &refusal, err, hints),
     }
 }
 
-/// Reads the list of files that the request names, if it names one, runs the request, and reports its outcome.
-fn run_request<I: Read + Drop, O: Write + IsTerminal, E: Write + IsTerminal>(
+/// Runs the request over the files that it names, itself or by its list, and returns the exit status.
+fn run_request<'a, I: Read + Drop, O: Write + IsTerminal, E: Write + IsTerminal>(
     rt: &impl Host,
-    request: Request<'_>,
-    stdin: I,
+    request: &'a Request<'a>,
+    stdin: Option<I>,
     out: &mut O,
     err: &mut E,
-    hints: bool,
-) -> u8 {
-    let mut stdin = Some(stdin);
-    let (text, list) = match read_list(rt, &request, &mut stdin) {
-        Ok(list) => list,
-        Err(refusal) => return hint::report(rt, &refusal, err, hints),
+) -> Result<u8, Refusal<'a>> {
+    let files = request.files(rt.alloc())?;
+    let Some(output) = &request.output else {
+        return check_files(rt, request.flags, &files, stdin, out, err);
     };
-    let request = match request.with_list(rt.alloc(), text.as_str(), list) {
-        Ok(request) => request,
-        Err(refusal) => return hint::report(rt, &refusal, err, hints),
-    };
-    let Some(run) = &request.run else {
-        return check_files(rt, &request, stdin, out, err, hints);
-    };
-    match run_job(rt, run, &request.files, stdin, out, err) {
-        Ok(has_more_o5) => {
-            let more = format!(in rt.alloc(); "{}", hint::MORE_O5).ok();
-            hint::advise(more.filter(|_| has_more_o5), err, hints);
-            let hint = hint::after_output(rt.alloc(), run.output, run.job.format);
-            hint::advise(hint, err, hints);
-            0
-        }
-        Err(refusal) => hint::report(rt, &refusal, err, hints),
-    }
-}
-
-/// Reports a refusal, if there is one, and returns the exit status.
-fn status_of<E: Write + IsTerminal>(
-    rt: &impl Host,
-    outcome: Result<(), Refusal<'_>>,
-    err: &mut E,
-) -> u8 {
-    match outcome {
-        Ok(()) => 0,
-        Err(refusal) => hint::report(rt, &refusal, err, false),
-    }
+    let has_more_o5 = make_output(rt, output, &files, stdin, out, err)?;
+    let more = format!(in rt.alloc(); "{}", hint::MORE_O5).ok();
+    hint::advise(more.filter(|_| has_more_o5), err, output.flags.hints);
+    let other = hint::after_output(rt.alloc(), output.name, output.asked.format);
+    hint::advise(other, err, output.flags.hints);
+    Ok(0)
 }
 
 /// Prints what `reason` means, and what to do; or all reasons.

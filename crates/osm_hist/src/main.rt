@@ -70,13 +70,8 @@ fn run_arguments(rt: &HostRuntime) -> u8 {
             "osm_hist: waiting for OPL on standard input; osm_hist --help shows the commands"
         );
     }
-    run_words(
-        rt,
-        arguments.as_slice(),
-        rt.stdin(),
-        rt.stdout(),
-        rt.stderr(),
-    )
+    let (stdin, out, err) = (rt.stdin(), rt.stdout(), rt.stderr());
+    run_words(rt, arguments.as_slice(), stdin, out, err)
 }
 
 /// The arguments after the program's name.

@@ -25,3 +25,4 @@ pub mod ShardRefusal
 pub mod Shard
 pub mod Names
 pub mod JobInput
+pub mod InputsJob

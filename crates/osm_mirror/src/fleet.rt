@@ -15,7 +15,7 @@ mod plan_fault;
 mod plan_line;
 mod plan_run;
 
-pub use event::{Event, MirrorEvent, Replies, Reply, Step, events_of};
+pub use event::{Event, MirrorEvent, Replies, Reply, Step, events_of, files_at};
 pub use keep::{Keep, Taken};
 pub use mirror::Mirror;
 use osm_files::{Fault, Format};

@@ -9,7 +9,7 @@ mod run;
 
 pub use fleet::{
     Event, Fleet, Keep, Mirror, MirrorEvent, Plan, PlanFault, PlanReason, PlanRun, PlanWrite,
-    Replies, Reply, Step, Taken, events_of, line_of_number, line_of_part, read_plan,
+    Replies, Reply, Step, Taken, events_of, files_at, line_of_number, line_of_part, read_plan,
 };
 pub use osm_merge::{Counts, NoProgress, Outside, Progress, Relation, Selection, Span};
 pub use osm_model::{Kind, Memory, Object, Version};
@@ -19,12 +19,12 @@ pub use report::{
     Quoted, REASONS, ReasonList, RefusedJson, content_of, fault_text, is_report_due,
 };
 pub use run::{
-    CheckReport, Checked, Command, FileRequest, FilesJob, InputFile, JobFile, JobInput, Metered,
-    NamesFault, Order, Place, ReadAs, RequestFault, Shard, ShardJob, Slice, SliceFile, Tally,
-    Watch, cut_offset, folder_of, is_part, job_files, last_of, part_name, read_moment, read_names,
-    read_retried, regular_files, run_apply, run_check, run_check_sorted, run_files, run_merge,
-    run_period_filter, run_selected, run_shard, run_slice, run_sort, run_tally, run_tally_sorted,
-    run_time_filter, write_retried,
+    CheckReport, Checked, Command, FileRequest, FilesJob, InputFile, InputsJob, JobFile, JobInput,
+    Metered, NamesFault, Order, Place, ReadAs, RequestFault, Shard, ShardJob, Slice, SliceFile,
+    Tally, Watch, cut_offset, folder_of, is_opl, is_part, last_of, part_name, read_moment,
+    read_names, read_retried, run_apply, run_check, run_check_sorted, run_files, run_inputs,
+    run_merge, run_period_filter, run_selected, run_shard, run_slice, run_sort, run_tally,
+    run_tally_sorted, run_time_filter, write_retried,
 };
 
 #[cfg(test)]

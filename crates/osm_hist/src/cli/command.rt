@@ -1,6 +1,6 @@
 //! The arguments that the program takes, with their help.
 use clap::{Arg, Command, arg};
-use osm_files::FORMAT_NAMES;
+use osm_files::{FORMAT_NAMES, Format};
 use std::alloc::{AllocError, Global};
 
 /// The program's version.
@@ -8,6 +8,12 @@ const VERSION: &str = "0.1.0";
 
 /// The option for a list of files.
 pub(super) const LIST: &str = "files0-from";
+
+/// The first argument of `time-filter`: FILE, or with a list of files the first TIME.
+pub(super) const FILE_OR_TIME: &str = "file-or-time";
+
+/// The format of an output whose format isn't given.
+pub(super) const DEFAULT_FORMAT: Format = Format::Opl;
 
 /// The value of `--explain` if it has none: all reasons are listed.
 pub(super) const ALL_REASONS: &str = "reasons";
@@ -34,6 +40,7 @@ type Made<'a> = Result<Command<'a>, AllocError>;
 /// The command that parses the arguments.
 pub(super) fn command<'a>(alloc: Global) -> Made<'a> {
     let explain = "Explains why a file is rejected, by its reason; without one, lists the reasons";
+    let explain = arg!(in alloc; --explain [REASON]).help(explain);
     Command::new(alloc, "osm_hist")
         .about("Merges, cuts and checks files of OpenStreetMap histories")
         .version(VERSION)
@@ -45,11 +52,7 @@ pub(super) fn command<'a>(alloc: Global) -> Made<'a> {
         .no_binary_name(true)
         .args_conflicts_with_subcommands(true)
         .bin_name("osm_hist")?
-        .arg(
-            arg!(in alloc; --explain [REASON])
-                .help(explain)
-                .default_missing_value(ALL_REASONS),
-        )?
+        .arg(explain.default_missing_value(ALL_REASONS))?
         .subcommand(merge_command(alloc)?)?
         .subcommand(apply_command(alloc)?)?
         .subcommand(time_filter_command(alloc)?)?
@@ -98,7 +101,7 @@ fn time_filter_command<'a>(alloc: Global) -> Made<'a> {
     let end = "The end of the period that begins then: all versions of that period are written";
     with_input(alloc, with_output(alloc, command)?)?
         .arg(sorted_arg(alloc))?
-        .arg(arg!(in alloc; files: <FILE>).help(file))?
+        .arg(arg!(in alloc; "file-or-time": <FILE>).help(file))?
         .arg(time.required_unless_present(LIST)?)?
         .arg(arg!(in alloc; end: [TIME]).help(end).conflicts_with(LIST)?)
 }
@@ -124,13 +127,12 @@ fn check_command<'a>(alloc: Global) -> Made<'a> {
             Example: osm_hist check download.o5m",
         );
     let files = "The files to be checked, in OPL, o5m or o5c; - is standard input";
+    let json = "Prints an object of JSON for each file, also for a rejected one";
     let summary =
         "Reports on standard error, in a line for each file, its versions by kind and its times";
     with_input(alloc, command.arg(sorted_arg(alloc))?)?
         .arg(arg!(in alloc; --summary).help(summary))?
-        .arg(
-            arg!(in alloc; --json "Prints an object of JSON for each file, also for a rejected one"),
-        )?
+        .arg(arg!(in alloc; --json).help(json))?
         .arg(files_arg(alloc, files)?)
 }
 
@@ -167,7 +169,7 @@ fn with_output<'a>(alloc: Global, command: Command<'a>) -> Made<'a> {
     let format = format.value_parser(FORMAT_NAMES.as_slice());
     command
         .arg(output)?
-        .arg(format.default_value("opl"))?
+        .arg(format.default_value(DEFAULT_FORMAT.name()))?
         .arg(arg!(in alloc; --shard <"K/N">).help(shard))?
         .arg(arg!(in alloc; --fsync "Puts the file on the disk before it gets its name"))?
         .arg(arg!(in alloc; --progress).help(progress))?

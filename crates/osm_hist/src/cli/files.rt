@@ -41,17 +41,18 @@ impl Stamp {
         Stamp::of(&fs::metadata(rt, "/dev/stdin").ok()?)
     }
 
-    /// Refuses the file with the name `name` if its stamp, which is `found` now, was this one and has changed. Of an
+    /// Refuses the file with the name `name` if its stamp, which is `found` now, was `before` and has changed. Of an
     /// empty file only the size counts: a file of `/proc` has bytes, though its size is always 0.
     pub(super) fn refuse_changed<'a>(
-        self,
+        before: Option<Stamp>,
         found: Option<Stamp>,
         name: &'a str,
     ) -> Result<(), Refusal<'a>> {
-        match found {
-            Some(stamp) if stamp == self || stamp.size == 0 && self.size == 0 => Ok(()),
-            Some(_) => Err(Refusal::Changed { name }),
-            None => Err(Refusal::CannotRead { name, code: None }),
+        match (before, found) {
+            (None, _) => Ok(()),
+            (Some(old), Some(new)) if old == new || old.size == 0 && new.size == 0 => Ok(()),
+            (Some(_), Some(_)) => Err(Refusal::Changed { name }),
+            (Some(_), None) => Err(Refusal::CannotRead { name, code: None }),
         }
     }
 }
@@ -66,19 +67,14 @@ pub(super) fn open<'a>(rt: &impl Host, name: &'a str) -> Result<File, Refusal<'a
     File::open(rt, name).map_err(|error| Refusal::unread(name, &error))
 }
 
-/// Reads an open file, whose name is `name`, or the rest of a pipe or a device. A regular file that changes while it is
-/// read is refused.
-pub(super) fn read<'a>(
-    rt: &impl Host,
-    file: &mut File,
-    name: &'a str,
-) -> Result<Vec<u8>, Refusal<'a>> {
-    let stamp = Stamp::of_file(file);
-    let bytes = read_stream(rt, file, name)?;
-    if let Some(stamp) = stamp {
-        stamp.refuse_changed(Stamp::of_file(file), name)?;
-    }
-    Ok(bytes)
+/// Opens and reads the file `name`, which may be a pipe or a device. A regular file that changes while it is read is
+/// refused.
+pub(super) fn read_file<'a>(rt: &impl Host, name: &'a str) -> Result<(Vec<u8>, File), Refusal<'a>> {
+    let mut file = open(rt, name)?;
+    let stamp = Stamp::of_file(&file);
+    let bytes = read_stream(rt, &mut file, name)?;
+    Stamp::refuse_changed(stamp, Stamp::of_file(&file), name)?;
+    Ok((bytes, file))
 }
 
 /// Reads standard input to its end. A regular file that changes while it is read is refused.
@@ -87,9 +83,7 @@ pub(super) fn read_input<'a, I: Read>(rt: &impl Host, stdin: &mut I) -> Result<V
 {
     let stamp = Stamp::of_input(rt);
     let bytes = read_stream(rt, stdin, STANDARD_INPUT)?;
-    if let Some(stamp) = stamp {
-        stamp.refuse_changed(Stamp::of_input(rt), STANDARD_INPUT)?;
-    }
+    Stamp::refuse_changed(stamp, Stamp::of_input(rt), STANDARD_INPUT)?;
     Ok(bytes)
 }
 

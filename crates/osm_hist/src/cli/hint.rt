@@ -111,12 +111,12 @@ fn after_refusal(rt: &impl Host, refusal: &Refusal<'_>) -> Option<String> {
         Refusal::NotShard { .. } => "a shard is as 3/8, the third of eight; there are up to 9999",
         Refusal::Memory(_) => LESS_MEMORY,
         Refusal::CannotRead { name, code } => return of_system(rt, *name, (*code)?),
-        Refusal::CannotCreate { output, error } => return of_uncreated(rt, *output, *error),
+        Refusal::CannotCreate { output, code } => return of_uncreated(rt, *output, *code),
         Refusal::CannotRename { output }
             if fs::metadata(rt, *output).is_ok_and(|found| found.is_dir()) => {
             return about(rt.alloc(), *output, "is a directory");
         }
-        Refusal::File(_, name, fault, error) => return of_fault(rt, *name, fault, *error),
+        Refusal::File(file) => return of_fault(rt, file.name, &file.fault, file.code),
         _ => return None,
     };
     text(rt.alloc(), hint)

@@ -42,41 +42,35 @@ pub(super) fn open_input<'a, I: Read + Drop, M: Watch>(
     streams: &mut Vec<StreamInput<I, M>>,
     watch: M,
 ) -> Result<OpenInput<'a, M>, Refusal<'a>> {
-    if arg == STANDARD {
-        let (name, code, regular) = (STANDARD_INPUT, None, None);
+    let (name, inner, id, stamp) = if arg != STANDARD {
+        let file = open(rt, arg)?;
+        // The system is asked once: a change after this moment is noticed.
+        let metadata = file.metadata().ok();
+        let id = metadata.as_ref().map(|metadata| FileId::of(metadata));
+        let stamp = metadata.as_ref().and_then(|metadata| Stamp::of(metadata));
+        (arg, Left(file), id, stamp)
+    } else if let Some(stream) = stdin.take() {
         let (id, stamp) = (FileId::of_input(rt), Stamp::of_input(rt));
-        let Some(stream) = stdin.take() else {
-            return Err(Refusal::CannotRead { name, code });
-        };
-        streams.push(stream_of(Right(stream), watch))?;
-        let (note, end) = (Note { name, id, stamp }, files.end);
-        return Ok(JobInput { note, regular, end });
-    }
-    let file = open(rt, arg)?;
-    // The system is asked once: a change after this moment is noticed.
-    let metadata = file.metadata().ok();
-    let id = metadata.as_ref().map(|metadata| FileId::of(metadata));
-    let stamp = metadata.as_ref().and_then(|metadata| Stamp::of(metadata));
-    let end = stamp.map_or(files.end, |_| files.end.of_file());
-    let note = Note {
-        name: arg,
-        id,
-        stamp,
+        (STANDARD_INPUT, Right(stream), id, stamp)
+    } else {
+        let name = STANDARD_INPUT;
+        return Err(Refusal::CannotRead { name, code: None });
     };
-    if let Some(stamp) = stamp
-        && (stamp.size > 0 || files.keeps_empty)
-    {
-        let regular = Some(Metered::new(FromFile::new(file, stamp.size), watch));
-        return Ok(JobInput { note, regular, end });
-    }
-    let regular = None;
-    streams.push(stream_of(Left(file), watch))?;
+    let end = match (&inner, stamp) {
+        (Left(_), Some(_)) => files.end.of_file(),
+        _ => files.end,
+    };
+    let regular = match (inner, stamp) {
+        (Left(file), Some(stamp)) if stamp.size > 0 || files.keeps_empty => {
+            Some(Metered::new(FromFile::new(file, stamp.size), watch))
+        }
+        (inner, _) => {
+            streams.push(FromRead::new(Metered::new(inner, watch)))?;
+            None
+        }
+    };
+    let note = Note { name, id, stamp };
     Ok(JobInput { note, regular, end })
-}
-
-/// A stream of a command.
-fn stream_of<I: Read + Drop, M: Watch>(inner: Either<File, I>, watch: M) -> StreamInput<I, M> {
-    FromRead::new(Metered::new(inner, watch))
 }
 
 /// The size of an input that is read as a regular file, in bytes.
@@ -90,9 +84,7 @@ pub(super) fn refuse_changed<'a, M: Watch>(
     rt: &impl Host,
     input: &OpenInput<'a, M>,
 ) -> Result<(), Refusal<'a>> {
-    let (Some(stamp), name) = (input.note.stamp, input.note.name) else {
-        return Ok(());
-    };
+    let name = input.note.name;
     let found = match &input.regular {
         Some(file) => Stamp::of_file(file.get_ref().get_ref()),
         None if name == STANDARD_INPUT => Stamp::of_input(rt),
@@ -101,5 +93,5 @@ pub(super) fn refuse_changed<'a, M: Watch>(
             _ => return Ok(()),
         },
     };
-    stamp.refuse_changed(found, name)
+    Stamp::refuse_changed(input.note.stamp, found, name)
 }

@@ -43,9 +43,9 @@ impl FileId {
         found.ok().map(|metadata| FileId::of(&metadata))
     }
 
-    /// The identity of an open file, if it is a regular one and the system knows its metadata.
-    pub(super) fn of_regular(file: &File) -> Option<FileId> {
-        let metadata = file.metadata().ok()?;
+    /// The identity of a regular file, if the system knows its metadata.
+    pub(super) fn of_regular(found: io::Result<Metadata>) -> Option<FileId> {
+        let metadata = found.ok()?;
         metadata.is_file().then(|| FileId::of(&metadata))
     }
 
@@ -62,8 +62,7 @@ pub(super) fn place_of<'a>(rt: &impl Host, name: &'a str) -> Place<'a, FileId> {
 
 /// The identity of the regular file `name`, or of the one that a link of that name leads to.
 pub(super) fn id_of_regular(rt: &impl Host, name: &str) -> Option<FileId> {
-    let metadata = fs::metadata(rt, name).ok()?;
-    metadata.is_file().then(|| FileId::of(&metadata))
+    FileId::of_regular(fs::metadata(rt, name))
 }
 
 /// The name of an OUT.part that this job has locked.
@@ -89,8 +88,8 @@ impl<'a> OutPart<'a> {
             Ok(Some((file, id))) => Ok((OutPart { output, name, id }, file)),
             Ok(None) => Err(Refusal::InputIsOutput { output }),
             Err(error) => {
-                let error = error.raw_os_error();
-                Err(Refusal::CannotCreate { output, error })
+                let code = error.raw_os_error();
+                Err(Refusal::CannotCreate { output, code })
             }
         }
     }
@@ -168,12 +167,11 @@ fn create(rt: &impl Host, name: &str, output: &str) -> io::Result<Option<(File, 
 
 /// The metadata of OUT, or of the file that it leads to, if that is a regular file.
 fn existing(rt: &impl Host, output: &str) -> io::Result<Option<Metadata>> {
+    let missing = [ErrorKind::NotFound, ErrorKind::FilesystemLoop];
     match fs::metadata(rt, output) {
         Ok(old) => Ok(Some(old).filter(|old| old.is_file())),
-        Err(error) => match error.kind() {
-            ErrorKind::NotFound | ErrorKind::FilesystemLoop => Ok(None),
-            _ => Err(error),
-        },
+        Err(error) if missing.contains(&error.kind()) => Ok(None),
+        Err(error) => Err(error),
     }
 }
 
@@ -246,27 +244,25 @@ fn remove_leftover(
     output: &str,
     inputs: &[Option<FileId>],
 ) -> io::Result<bool> {
-    match leftover(rt, name) {
-        Ok(file) => {
-            let metadata = file.metadata()?;
-            let id = FileId::of(&metadata);
-            if !is_of_job(rt, &metadata, output) {
-                return Err(io::Error::from(ErrorKind::PermissionDenied));
-            }
-            if file.try_lock().is_err() {
-                return Err(io::Error::from(ErrorKind::WouldBlock));
-            }
-            if !is_named(rt, name, id) {
-                return Ok(true);
-            }
-            if inputs.contains(&Some(id)) {
-                return Ok(false);
-            }
-            fs::remove_file(rt, name).map(|()| true)
-        }
-        Err(error) if error.kind() == ErrorKind::NotFound => Ok(true),
-        Err(error) => Err(error),
+    let file = match leftover(rt, name) {
+        Err(error) if error.kind() == ErrorKind::NotFound => return Ok(true),
+        opened => opened?,
+    };
+    let metadata = file.metadata()?;
+    let id = FileId::of(&metadata);
+    if !is_of_job(rt, &metadata, output) {
+        return Err(io::Error::from(ErrorKind::PermissionDenied));
     }
+    if file.try_lock().is_err() {
+        return Err(io::Error::from(ErrorKind::WouldBlock));
+    }
+    if !is_named(rt, name, id) {
+        return Ok(true);
+    }
+    if inputs.contains(&Some(id)) {
+        return Ok(false);
+    }
+    fs::remove_file(rt, name).map(|()| true)
 }
 
 /// Whether a job on OUT may have made the file with this metadata: its owner is the user of this process, the owner of
@@ -290,8 +286,7 @@ fn leftover(rt: &impl Host, name: &str) -> io::Result<File> {
 
 /// Whether `name` is the name of the file `id` itself, and not of a link to it.
 pub(super) fn is_named(rt: &impl Host, name: &str, id: FileId) -> bool {
-    fs::symlink_metadata(rt, name).is_ok_and(|metadata| metadata.is_file()
-        && FileId::of(&metadata) == id)
+    FileId::of_regular(fs::symlink_metadata(rt, name)) == Some(id)
 }
 
 /// Removes the file `id` if it still has the name `name`.

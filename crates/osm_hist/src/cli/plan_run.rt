@@ -1,17 +1,16 @@
 //! The job of a plan. Mirrors take files and pass on what they hold. At the end the job writes the files of the plan.
-ghost use Rattle.std.specs.Prelude.{◌≡◌, ◌<◌, [], length, map, slice_get, option_map, unwrap_or, IfOk};
+ghost use Rattle.std.specs.Prelude.{◌≡◌, ◌<◌, length, IfOk};
 ghost use Rattle.std.specs.List.{All};
 ghost use Rattle.osm_mirror.specs.fleet.Plan.{NamesItsMirrors};
 
-use super::files::{open, read};
+use super::files::read_file;
 use super::part::{FileId, id_of_regular, place_of};
 use super::refusal::Refusal;
 use super::target::{STANDARD, Target, refuse_standard_output};
 use super::{Host, hint, print, write_whole};
 use clap::ArgMatches;
 use osm_files::{Fault, Reason};
-use osm_mirror::{Plan, PlanRun, PlanWrite, Replies, Reply, Step, part_name, read_plan};
-use std::alloc::{AllocError, Global};
+use osm_mirror::{Plan, PlanRun, PlanWrite, Replies, Reply, Step, files_at, part_name, read_plan};
 use std::fs;
 use std::io::{IsTerminal, Write};
 
@@ -26,8 +25,8 @@ pub(super) fn run_plan<O: Write, E: Write + IsTerminal>(
 ) -> u8 {
     let name = matches.get_str("plan").unwrap_or(STANDARD);
     let (strict, hints) = (matches.get_flag("strict"), matches.get_flag("hints"));
-    let text = match read_text(rt, name) {
-        Ok(text) => text,
+    let text = match read_file(rt, name) {
+        Ok((text, _)) => text,
         Err(refusal) => return hint::report(rt, &refusal, err, hints),
     };
     let text = text.as_slice();
@@ -39,13 +38,10 @@ pub(super) fn run_plan<O: Write, E: Write + IsTerminal>(
             return status;
         }
     };
-    let run = match run_steps(rt, name, &plan, out) {
+    let run = match run_lines(rt, name, &plan, strict, out) {
         Ok(run) => run,
         Err(refusal) => return refusal.report(err),
     };
-    if let Err(refusal) = write_files(rt, &run, run.writes(&plan, strict), out) {
-        return refusal.report(err);
-    }
     let count = run.refused();
     if count == 0 {
         return 0;
@@ -64,33 +60,27 @@ pub(super) fn run_plan<O: Write, E: Write + IsTerminal>(
     status
 }
 
-/// The text of the plan in the file `name`.
-fn read_text<'a>(rt: &impl Host, name: &'a str) -> Result<Vec<u8>, Refusal<'a>> {
-    read(rt, &mut open(rt, name)?, name)
-}
-
-/// Runs the steps of the plan in the file `name`, and prints the replies. All files that the plan takes are read before
-/// the first step.
-fn run_steps<'p, O: Write>(
+/// Runs the steps of the plan in the file `name`, prints the replies, and makes the files of the write lines. All files
+/// that the plan takes are read before the first step.
+fn run_lines<'p, O: Write>(
     rt: &impl Host,
     name: &'p str,
     plan: &'p Plan,
+    strict: bool,
     out: &mut O,
 ) -> Result<PlanRun, Refusal<'p>>
     requires { NamesItsMirrors plan.now }
-    ensures { IfOk result (λ run. length run.fleet ≡ length plan.now.mirrors.items) }
 {
     let (alloc, steps) = (rt.alloc(), plan.steps.as_slice());
     refuse_overwriting(rt, name, plan.writes.as_slice())?;
-    let mut files = Vec::new(alloc);
     refuse_output(rt, name, steps)?;
-    let indices = read_taken(rt, steps, &mut files)?;
-    let bytes = bytes_of(alloc, files.as_slice(), indices.as_slice())?;
+    let (mut names, mut contents) = (Vec::new(alloc), Vec::new(alloc));
+    let indices = read_taken(rt, steps, &mut names, &mut contents)?;
+    let bytes = files_at(alloc, contents.as_slice(), indices.as_slice())?;
     let run = PlanRun::of_plan(alloc, plan, bytes.as_slice())?;
-    print(
-        out,
-        &format!(in alloc; "{}", Replies(run.replies.as_slice()))?,
-    )?;
+    let replies = format!(in alloc; "{}", Replies(run.replies.as_slice()))?;
+    print(&mut *out, &replies)?;
+    write_files(rt, &run, run.writes(plan, strict), out)?;
     Ok(run)
 }
 
@@ -134,29 +124,26 @@ fn refuse_output<'p>(rt: &impl Host, name: &'p str, steps: &'p [Step]) -> Result
     refused
 }
 
-/// A file that steps take.
-#[derive(Drop)]
-struct TakenFile<'p> {
-    name: &'p str,
-    /// The identity of a regular file.
-    id: Option<FileId>,
-    bytes: Vec<u8>,
-}
+/// The name of a file that steps take, and the identity of a regular file.
+type TakenName<'p> = (&'p str, Option<FileId>);
 
-/// Appends to `files` those that the steps take, each once, in the order in which they are taken first. Files of one
-/// name are one file, and so are regular files of one identity. Returns for each step the index of its file; the index
-/// for a step that takes no file is that of no file.
+/// Reads the files that the steps take, each once, in the order in which they are taken first: their names are appended
+/// to `names` and their bytes to `contents`. Returns for each step the index of its file; the index for a step that
+/// takes no file is that of no file.
 fn read_taken<'p>(
     rt: &impl Host,
     steps: &'p [Step],
-    files: &mut Vec<TakenFile<'p>>,
+    names: &mut Vec<TakenName<'p>>,
+    contents: &mut Vec<Vec<u8>>,
 ) -> Result<Vec<usize>, Refusal<'p>>
     ensures { IfOk result (λ indices. length indices.items ≡ length steps.now) }
 {
     let mut indices = Vec::new(rt.alloc());
     'steps: for step in steps {
         let index = match step {
-            Step::Take { file, .. } => read_once(rt, file.as_str(), &mut *files)?,
+            Step::Take { file, .. } => {
+                read_once(rt, file.as_str(), &mut *names, &mut *contents)?
+            }
             _ => usize::MAX,
         };
         indices.push(index)?;
@@ -164,48 +151,22 @@ fn read_taken<'p>(
     Ok(indices)
 }
 
-/// The bytes of the files with these indices; none for the index of no file.
-fn bytes_of<'f>(
-    alloc: Global,
-    files: &'f [TakenFile<'_>],
-    indices: &[usize],
-) -> Result<Vec<&'f [u8]>, AllocError>
-    ensures count { IfOk result (λ bytes. length bytes.items ≡ length indices.now) }
-    ensures bytes { IfOk result (λ bytes. map (λ b. b.now) bytes.items
-        ≡ map (λ i. unwrap_or (option_map (λ file. file.bytes.items) (slice_get files.now i)) []) indices.now) }
-{
-    let mut bytes: Vec<&'f [u8]> = Vec::new(alloc);
-    'indices: for index in indices {
-        bytes.push(bytes_at(files, *index))?;
-    }
-    Ok(bytes)
-}
-
-/// The bytes of the file with this index; none if there is no such file.
-fn bytes_at<'f>(files: &'f [TakenFile<'_>], index: usize) -> &'f [u8]
-    ensures { result.now ≡ unwrap_or (option_map (λ file. file.bytes.items) (slice_get files.now index)) [] }
-{
-    match files.get(index) {
-        Some(file) => file.bytes.as_slice(),
-        None => &[],
-    }
-}
-
-/// Reads the file `name`, unless it is one of `files`. Returns its index among them.
+/// Reads the file `name`, unless it is among `names`: files of one name are one file, and so are regular files of one
+/// identity. Returns its index among them.
 fn read_once<'p>(
     rt: &impl Host,
     name: &'p str,
-    files: &mut Vec<TakenFile<'p>>,
+    names: &mut Vec<TakenName<'p>>,
+    contents: &mut Vec<Vec<u8>>,
 ) -> Result<usize, Refusal<'p>> {
-    let (id, index) = (id_of_regular(rt, name), files.len());
-    let is_known = |file: &TakenFile<'_>| file.name == name || id.is_some() && file.id == id;
-    if let Some(known) = files.iter().position(is_known) {
+    let (id, index) = (id_of_regular(rt, name), contents.len());
+    let is_it = |known: &TakenName<'_>| known.0 == name || id.is_some() && known.1 == id;
+    if let Some(known) = names.iter().position(is_it) {
         return Ok(known);
     }
-    let mut file = open(rt, name)?;
-    let bytes = read(rt, &mut file, name)?;
-    let id = FileId::of_regular(&file);
-    files.push(TakenFile { name, id, bytes })?;
+    let (bytes, file) = read_file(rt, name)?;
+    names.push((name, FileId::of_regular(file.metadata())))?;
+    contents.push(bytes)?;
     Ok(index)
 }
 

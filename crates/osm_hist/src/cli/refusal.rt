@@ -49,9 +49,9 @@ pub(crate) enum Refusal<'a> {
     CannotRead { name: &'a str, code: Option<i32> },
     #[error("{name}: changed during the run")]
     Changed { name: &'a str },
-    /// OUT.part can't be made. `error` is the system's number of the error, if the system refused to make the file.
+    /// OUT.part can't be made. `code` is the system's number of the error, if the system refused to make the file.
     #[error("{output}.part: cannot create")]
-    CannotCreate { output: &'a str, error: Option<i32> },
+    CannotCreate { output: &'a str, code: Option<i32> },
     #[error("{name}: cannot write")]
     CannotWrite { name: &'a str },
     #[error("{output}.part: cannot sync")]
@@ -61,9 +61,8 @@ pub(crate) enum Refusal<'a> {
     NotSynced { output: &'a str },
     #[error("{output}: cannot rename")]
     CannotRename { output: &'a str },
-    /// A file is refused: the line that reports it, its name, its fault, and the system's number of a write error.
-    #[error("{0}")]
-    File(String, &'a str, Fault, Option<i32>),
+    #[error("{}", .0.line)]
+    File(FileRefusal<'a>),
     #[error("{name}: line {}: {}", .fault.line, .fault.reason.name())]
     Plan { name: &'a str, fault: PlanFault },
     #[error("{name}: {count} events refused")]
@@ -77,6 +76,17 @@ pub(crate) enum Refusal<'a> {
     StandardOutput,
 }
 
+/// The refusal of a file.
+#[derive(Debug, Drop)]
+pub(crate) struct FileRefusal<'a> {
+    /// The line that reports it.
+    line: String,
+    pub(super) name: &'a str,
+    pub(super) fault: Fault,
+    /// The system's number of a write error, if it is known.
+    pub(super) code: Option<i32>,
+}
+
 impl<'a> Refusal<'a> {
     /// The refusal of the arguments by `clap`.
     pub(crate) fn of_arguments(error: clap::Error) -> Refusal<'a> {
@@ -86,15 +96,15 @@ impl<'a> Refusal<'a> {
         }
     }
 
-    /// The refusal of the file `name`. `error` is the system's number of a write error, if it is known.
-    pub(crate) fn of_fault(
-        alloc: Global,
-        fault: Fault,
-        name: &'a str,
-        error: Option<i32>,
-    ) -> Refusal<'a> {
+    /// The refusal of the file `name`. `code` is the system's number of a write error, if it is known.
+    pub(crate) fn of_fault(alloc: Global, fault: Fault, name: &'a str, code: Option<i32>) -> Self {
         match fault_text(alloc, &fault, &[], name) {
-            Ok(line) => Refusal::File(line, name, fault, error),
+            Ok(line) => Refusal::File(FileRefusal {
+                line,
+                name,
+                fault,
+                code,
+            }),
             Err(_) => Refusal::Memory(AllocError),
         }
     }
@@ -124,8 +134,8 @@ impl<'a> Refusal<'a> {
     /// The place of the fault of a refused file, if it has one, and the reason.
     pub(crate) fn cause(&self) -> (Option<u64>, &'static str) {
         match self {
-            Refusal::File(_, _, fault, _) if fault.reason != Reason::Memory => {
-                (Some(fault.place), fault.reason.name())
+            Refusal::File(file) if file.fault.reason != Reason::Memory => {
+                (Some(file.fault.place), file.fault.reason.name())
             }
             Refusal::CannotRead { .. } => (None, "cannot read"),
             Refusal::Changed { .. } => (None, "changed during the run"),

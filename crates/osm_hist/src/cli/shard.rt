@@ -2,8 +2,8 @@
 use super::input::{OpenInput, refuse_changed, size_of};
 use super::target::STANDARD;
 use super::{Host, Refusal};
-use osm_files::{O5_START, ReadAt};
-use osm_mirror::Watch;
+use osm_files::ReadAt;
+use osm_mirror::{Watch, is_opl};
 use std::fs;
 
 /// Refuses names of files that aren't regular. So no pipe is opened, which would wait.
@@ -21,34 +21,39 @@ pub(super) fn refuse_irregular<'a>(rt: &impl Host, names: &[&'a str]) -> Result<
     Ok(())
 }
 
-/// Refuses open files that can't be sharded. The system has to know the size of each, and at least one has to be OPL. A
-/// file of `/proc` has bytes, though its size is 0. Returns whether o5 files are the larger part of the input.
-pub(super) fn check_shardable<'a, M: Watch>(
+/// Whether o5 files are the larger part of open files. Files that can't be sharded are refused: at least one has to be
+/// OPL.
+pub(super) fn has_more_o5<'a, M: Watch>(
     rt: &impl Host,
     inputs: &[OpenInput<'a, M>],
 ) -> Result<bool, Refusal<'a>> {
-    let (mut has_opl, mut opl, mut o5) = (false, 0_u64, 0_u64);
+    let (mut opl, mut o5) = (None, 0_u64);
     for input in inputs {
-        let (name, code, mut first) = (input.note.name, None, [0u8; 1]);
-        let (Some(file), Some(size)) = (&input.regular, size_of(input)) else {
-            return Err(Refusal::CannotRead { name, code });
-        };
-        let Ok(count) = file.read_at(&mut first, 0) else {
-            return Err(Refusal::CannotRead { name, code });
-        };
-        if count > 0 && size == 0 {
-            refuse_changed(rt, input)?;
-            return Err(Refusal::NotRegular { name });
-        }
-        if count > 0 && first[0] == O5_START {
-            o5 = o5.saturating_add(size);
-        } else {
-            has_opl = true;
-            opl = opl.saturating_add(size);
+        match size_if_opl(rt, input)? {
+            (size, true) => opl = Some(size.saturating_add(opl.unwrap_or(0))),
+            (size, false) => o5 = o5.saturating_add(size),
         }
     }
-    if !has_opl {
-        return Err(Refusal::ShardWithoutOpl);
-    }
+    let opl = opl.ok_or(Refusal::ShardWithoutOpl)?;
     Ok(o5 > opl)
+}
+
+/// The size of an open file, and whether it is OPL. The system has to know the size: a file of `/proc` has bytes,
+/// though its size is 0.
+fn size_if_opl<'a, M: Watch>(
+    rt: &impl Host,
+    input: &OpenInput<'a, M>,
+) -> Result<(u64, bool), Refusal<'a>> {
+    let (name, code) = (input.note.name, None);
+    let (Some(file), Some(size)) = (&input.regular, size_of(input)) else {
+        return Err(Refusal::CannotRead { name, code });
+    };
+    match (file.read_at(&mut [0u8; 1], 0), is_opl(file)) {
+        (Ok(count), Ok(is_opl)) if count == 0 || size > 0 => Ok((size, is_opl)),
+        (Ok(_), Ok(_)) => {
+            refuse_changed(rt, input)?;
+            Err(Refusal::NotRegular { name })
+        }
+        _ => Err(Refusal::CannotRead { name, code }),
+    }
 }

@@ -139,8 +139,7 @@ impl<'a> Target<'a> {
             part,
             writer,
             taken: 0,
-            has_failed: false,
-            error: None,
+            failure: None,
         })
     }
 }
@@ -188,10 +187,8 @@ pub(super) struct Destination<'a, O> {
     writer: Either<File, O>,
     /// The number of bytes that the writer took before its first failure, without those that were cut away.
     pub(super) taken: u64,
-    /// Whether a call failed.
-    has_failed: bool,
-    /// The system's number of the first error, if a call failed and its error has a number.
-    pub(super) error: Option<i32>,
+    /// The system's number of the first error, if it has one; none if no call failed.
+    pub(super) failure: Option<Option<i32>>,
 }
 
 impl<'a, O> Destination<'a, O> {
@@ -204,23 +201,20 @@ impl<'a, O> Destination<'a, O> {
     ) -> Result<T, Refusal<'a>>
         ensures { MatchResult written.entry (λ done. IfOk result (λ x. x ≡ done)) (λ refusal. result ≡ Err refusal) }
     {
-        let Some(part) = &self.part else {
+        let (Some(part), Left(file)) = (&self.part, &self.writer) else {
             return written;
         };
-        let done = match written {
-            Ok(done) => done,
-            Err(refusal) => {
-                part.discard(rt);
-                return Err(refusal);
-            }
+        let outcome = match written {
+            Ok(done) => match part.complete(rt, file, fsync) {
+                Ok(()) => Ok(done),
+                Err(refusal) => Err(refusal),
+            },
+            Err(refusal) => Err(refusal),
         };
-        if let Left(file) = &self.writer
-            && let Err(refusal) = part.complete(rt, file, fsync)
-        {
+        if outcome.is_err() {
             part.discard(rt);
-            return Err(refusal);
         }
-        Ok(done)
+        outcome
     }
 
     /// Notes the failure of a call.
@@ -229,9 +223,9 @@ impl<'a, O> Destination<'a, O> {
         ensures writer { self.new.writer ≡ self.old.writer }
     {
         if let Err(error) = &outcome
-            && !self.has_failed
+            && self.failure.is_none()
         {
-            (self.has_failed, self.error) = (true, error.raw_os_error());
+            self.failure = Some(error.raw_os_error());
         }
         outcome
     }
@@ -272,9 +266,7 @@ impl<O: Write> CutBack for Destination<'_, O> {
 
     fn cut_back(&mut self, length: u64) -> io::Result<()> {
         let outcome = self.cut(length);
-        if outcome.is_err() {
-            self.taken = 0;
-        } else if !self.has_failed {
+        if outcome.is_ok() && self.failure.is_none() {
             self.taken = length;
         }
         self.note(outcome)
@@ -287,7 +279,7 @@ impl<O: Write> Write for Destination<'_, O> {
     fn write(&mut self, bytes: &[u8]) -> io::Result<usize> {
         let outcome = write_retried(&mut self.writer, bytes);
         if let Ok(count) = &outcome
-            && !self.has_failed
+            && self.failure.is_none()
         {
             self.taken = self.taken.saturating_add(*count as u64);
         }

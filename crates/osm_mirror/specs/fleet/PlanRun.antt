@@ -1,4 +1,4 @@
--- The run of a plan: how many events were refused, and which write lines are run.
+-- The run of a plan, for `PlanRun`: how many events were refused, and which write lines are run.
 use Rattle.std.specs.Prelude.{ℕ, Bool, true, false, ◌&&◌, if◌then◌else◌, List, [], length, filter, nat_lt}
 use Rattle.osm_mirror.specs.declared.fleet.event.Reply.{Reply}
 use Rattle.osm_mirror.specs.declared.fleet.event.Reply.TheVariants.{Taken, Refused}

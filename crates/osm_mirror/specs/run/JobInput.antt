@@ -1,5 +1,9 @@
--- The files of a job over open inputs: an own rule of this project.
-use Rattle.std.specs.Prelude.{◌≡◌, Bool, true, false, List, [], ◌∷◌, Option, Some, None}
+-- The files of a job over open inputs, for `run_inputs`: an own rule of this project.
+use Rattle.std.specs.Prelude.{◌≡◌, ◌≢◌, ◌⊎◌, ℕ, Bool, true, false, List, [], ◌∷◌, length, map, count_by, slice_get}
+use Rattle.std.specs.Prelude.{Option, Some, None}
+use Rattle.std.specs.Borrow.{Bor}
+use Rattle.osm_files.specs.declared.fault.Fault.{Fault}
+use Rattle.osm_files.specs.Fault.{memory_fault, failed_fault}
 use Rattle.osm_mirror.specs.declared.run.files_job.JobFile.{JobFile}
 use Rattle.osm_mirror.specs.declared.run.files_job.JobFile.TheVariants.{File, Stream}
 use Rattle.osm_mirror.specs.declared.run.job_input.JobInput.{JobInput}
@@ -29,3 +33,17 @@ is_absent (Some x) = false
 -- an open input is read as a stream: it has no regular file
 abbrev pub is_stream : {N F : Type 0} → JobInput N F → Bool
 is_stream input = is_absent input.regular
+
+-- memory ran out, or the number of streams isn't that of the inputs without a regular file
+abbrev pub IsUnmatched : {N F R : Type 0} → List (JobInput N F) → List R → Fault → Type 0
+IsUnmatched inputs streams fault = (fault ≡ memory_fault)
+    ⊎ ((fault ≡ failed_fault fault.input) × (count_by is_stream inputs ≢ length streams))
+
+-- these are the regular files of open inputs, one for each, in their order
+abbrev pub AreRegularFilesOf : {N F : Type 0} → List (JobInput N F) → List (Bor F) → Type 0
+AreRegularFilesOf inputs files = map (λ input. input.regular) inputs ≡ map (λ file. Some file.now) files
+
+-- memory ran out, or the input with the fault's number is a stream
+abbrev pub HasStream : {N F : Type 0} → List (JobInput N F) → Fault → Type 0
+HasStream {N} {F} inputs fault = (fault ≡ memory_fault) ⊎ ((fault ≡ failed_fault fault.input)
+    × (input : JobInput N F) × (slice_get inputs fault.input ≡ Some input) × (input.regular ≡ None))

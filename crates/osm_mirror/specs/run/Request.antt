@@ -1,4 +1,4 @@
--- What the commands that make a file write, by their arguments: an own rule of this project.
+-- What the commands that make a file write, by their arguments, for `FileRequest::run`: an own rule of this project.
 use Rattle.std.specs.Prelude.{ℕ, nat_lt, Bool, true, false, List, Option, Some, None, Result, Ok, Err, codes}
 use Rattle.std.specs.Prelude.{if◌then◌else◌}
 use Rattle.std.specs.Borrow.{Bor}
@@ -6,7 +6,8 @@ use Rattle.opl_line.specs.Time.{reading_time}
 use Rattle.opl_line.specs.declared.reason.OplReason.{OplReason}
 use Rattle.osm_merge.specs.declared.selection.Selection.{Selection}
 use Rattle.osm_merge.specs.declared.selection.Selection.TheVariants.{All, Newest, NewestVisible, StateVisible, Between}
-use Rattle.osm_mirror.specs.declared.run.files_job.FilesJob.{FilesJob}
+use Rattle.osm_mirror.specs.declared.run.inputs_job.InputsJob.{InputsJob}
+use Rattle.osm_mirror.specs.declared.run.inputs_job.InputsJob.TheVariants.{Whole, Part}
 use Rattle.osm_mirror.specs.declared.run.files_job.Order.{Order}
 use Rattle.osm_mirror.specs.declared.run.files_job.Order.TheVariants.{Sorted, Any}
 use Rattle.osm_mirror.specs.declared.run.request.Command.{Command}
@@ -14,6 +15,7 @@ use Rattle.osm_mirror.specs.declared.run.request.Command.TheVariants.{Merge, App
 use Rattle.osm_mirror.specs.declared.run.request.FileRequest.{FileRequest}
 use Rattle.osm_mirror.specs.declared.run.request.RequestFault.{RequestFault}
 use Rattle.osm_mirror.specs.declared.run.request.RequestFault.TheVariants.{NoTime, NotMoment, NotAfterFirst}
+use Rattle.osm_mirror.specs.declared.run.shard.Shard.{Shard}
 
 -- the name of a command
 abbrev pub command_name : Command → List ℕ
@@ -72,11 +74,22 @@ selection_for Sort asked = Ok All
 selection_for Apply asked = Ok (applied_selection asked.with_history asked.with_deletions)
 selection_for TimeFilter asked = filtered_selection asked.time asked.end
 
--- the job for which a request asks
-abbrev pub requested_job : FileRequest → Result FilesJob RequestFault
-requested_job asked = and_then (selection_for asked.command asked) (λ selection. Ok (record {
+-- the job that writes the selected versions: that for the shard, if there is one
+abbrev pub job_for : Option Shard → FileRequest → Selection → InputsJob
+job_for None asked selection = Whole (record {
   selection = selection;
   order = order_for asked.command asked.sorted;
   tries_largest = tries_largest asked.command;
   format = asked.format;
-}))
+})
+job_for (Some shard) asked selection = Part (record {
+  shard = shard;
+  selection = selection;
+  format = asked.format;
+  end = asked.end_rule;
+})
+
+-- the job for which a request asks
+abbrev pub requested_job : FileRequest → Result InputsJob RequestFault
+requested_job asked =
+    and_then (selection_for asked.command asked) (λ selection. Ok (job_for asked.shard asked selection))

@@ -1,4 +1,4 @@
--- The texts of shards: an own rule of this project.
+-- The texts of shards, for `Shard::read`: an own rule of this project.
 use Rattle.std.specs.Prelude.{◌≡◌, ℕ, ◌≤◌, List, ◌++◌, codes}
 use Rattle.osm_mirror.specs.Digits.{IsDecimal}
 

@@ -1,5 +1,5 @@
 //! Events of mirrors, and the replies of a fleet.
-ghost use Rattle.std.specs.Prelude.{IsTrue, ◌≡◌, ◌↔◌, length, IfOk};
+ghost use Rattle.std.specs.Prelude.{IsTrue, ◌≡◌, ◌↔◌, [], length, map, slice_get, option_map, unwrap_or, IfOk};
 ghost use Rattle.osm_mirror.specs.fleet.Event as spec;
 ghost use Rattle.osm_mirror.specs.fleet.Event.{IsWithin};
 
@@ -54,6 +54,33 @@ impl<F> MirrorEvent<F> {
             }
             MirrorEvent::Pass { from, to, .. } => *from < mirrors && *to < mirrors,
         }
+    }
+}
+
+/// The bytes of the files with these indices; none for the index of no file.
+pub fn files_at<'f>(
+    alloc: Global,
+    files: &'f [Vec<u8>],
+    indices: &[usize],
+) -> Result<Vec<&'f [u8]>, AllocError>
+    ensures count { IfOk result (λ found. length found.items ≡ length indices.now) }
+    ensures bytes { IfOk result (λ found. map (λ file. file.now) found.items
+        ≡ map (λ i. unwrap_or (option_map (λ file. file.items) (slice_get files.now i)) []) indices.now) }
+{
+    let mut found: Vec<&'f [u8]> = Vec::new(alloc);
+    'indices: for index in indices {
+        found.push(file_at(files, *index))?;
+    }
+    Ok(found)
+}
+
+/// The bytes of the file with this index; none if there is no such file.
+fn file_at<'f>(files: &'f [Vec<u8>], index: usize) -> &'f [u8]
+    ensures { result.now ≡ unwrap_or (option_map (λ file. file.items) (slice_get files.now index)) [] }
+{
+    match files.get(index) {
+        Some(file) => file.as_slice(),
+        None => &[],
     }
 }
 

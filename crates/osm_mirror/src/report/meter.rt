@@ -44,13 +44,14 @@ impl<'a, C: Clock, E: Write + IsTerminal> Meter<'a, C, E> {
             last: Cell::new(start),
             bytes: Cell::new(0),
             tally: Cell::new(JobTally::new()),
-            size: Cell::new(None),
+            size: Cell::new(Some(0)),
         }
     }
 
-    /// Notes the size of all input files in bytes, if it is known.
-    pub fn note_size(&self, size: Option<u64>) {
-        self.size.set(size);
+    /// Adds the size of an input file in bytes, if it is known. Otherwise that of all isn't, either.
+    pub fn add_size(&self, size: Option<u64>) {
+        let all = self.size.get().and_then(|all| all.checked_add(size?));
+        self.size.set(all);
     }
 
     /// Adds `count` to the bytes that the job read, and reports if the interval has passed.

@@ -1,9 +1,7 @@
 //! The open inputs of a job, as the files of the job.
-ghost use Rattle.std.specs.Prelude.{◌≡◌, ◌≢◌, ◌⊎◌, Some, None, length, map, count_by, slice_get, IfOk, IfErr};
+ghost use Rattle.std.specs.Prelude.{IfOk, IfErr};
 ghost use Rattle.std.specs.Vec.Iter.{into_iter_items};
-ghost use Rattle.osm_files.specs.Fault.{memory_fault, failed_fault};
-ghost use Rattle.osm_mirror.specs.run.JobInput.{AreFilesOf, IsFileOf, is_stream};
-ghost use Rattle.osm_mirror.specs.declared.run.job_input.JobInput.{JobInput};
+ghost use Rattle.osm_mirror.specs.run.JobInput.{AreFilesOf, IsFileOf, IsUnmatched, AreRegularFilesOf, HasStream};
 
 use crate::run::files_job::JobFile;
 use osm_files::{EndRule, Fault};
@@ -27,14 +25,13 @@ pub struct JobInput<N, F> {
 /// # Errors
 ///
 /// `Memory`; or `Failed` if the number of streams isn't that of the inputs without a regular file.
-pub fn job_files<'f, N, F, R: Drop>(
+pub(crate) fn job_files<'f, N, F, R: Drop>(
     alloc: Global,
     inputs: &'f [JobInput<N, F>],
     streams: Vec<R>,
 ) -> Result<Vec<JobFile<'f, F, R>>, Fault>
     ensures files { IfOk result (λ files. AreFilesOf inputs.now streams.items files.items) }
-    ensures refused { IfErr result (λ fault. (fault ≡ memory_fault)
-        ⊎ (count_by is_stream inputs.now ≢ length streams.items)) }
+    ensures refused { IfErr result (IsUnmatched inputs.now streams.items) }
 {
     let mut files = Vec::new(alloc);
     let mut streams = streams.into_iter();
@@ -71,14 +68,12 @@ fn file_of<'f, N, F, R>(
 /// # Errors
 ///
 /// `Memory`; or `Failed`, with the number of the first input that is a stream.
-pub fn regular_files<'f, N, F>(
+pub(crate) fn regular_files<'f, N, F>(
     alloc: Global,
     inputs: &'f [JobInput<N, F>],
 ) -> Result<Vec<&'f F>, Fault>
-    ensures files { IfOk result (λ files.
-        map (λ input. input.regular) inputs.now ≡ map (λ file. Some file.now) files.items) }
-    ensures refused { IfErr result (λ fault. (fault ≡ memory_fault) ⊎ ((fault ≡ failed_fault fault.input)
-        × (input : JobInput N F) × (slice_get inputs.now fault.input ≡ Some input) × (input.regular ≡ None))) }
+    ensures files { IfOk result (λ files. AreRegularFilesOf inputs.now files.items) }
+    ensures refused { IfErr result (HasStream inputs.now) }
 {
     let mut files = Vec::new(alloc);
     'inputs: for index in 0..inputs.len() {

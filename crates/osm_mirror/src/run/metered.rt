@@ -4,6 +4,7 @@ ghost use Rattle.std.specs.Prelude.{◌≡◌};
 use crate::report::Meter;
 use crate::run::retried::read_retried;
 use osm_files::{Broken, ReadAt};
+use std::cell::Cell;
 use std::io;
 use std::io::{IsTerminal, Read, Write};
 use std::marker::Model;
@@ -18,6 +19,12 @@ pub trait Watch: Copy {
 impl<'m, 'a, C: Clock, E: Write + IsTerminal> Watch for &'m Meter<'a, C, E> {
     fn count(&self, count: usize) {
         Meter::count(*self, count);
+    }
+}
+
+impl Watch for &Cell<u64> {
+    fn count(&self, count: usize) {
+        self.set(self.get().saturating_add(count as u64));
     }
 }
 

@@ -4,11 +4,14 @@ ghost use Rattle.opl_line.specs.Time.{reading_time};
 ghost use Rattle.osm_mirror.specs.declared.run.request.Command.{Command};
 ghost use Rattle.osm_mirror.specs.run.Request.{command_name, order_for, tries_largest};
 ghost use Rattle.osm_mirror.specs.run.Request.{applied_selection, filtered_selection};
-ghost use Rattle.osm_mirror.specs.run.Request.{moment_of, selection_for, requested_job};
+ghost use Rattle.osm_mirror.specs.run.Request.{moment_of, selection_for, job_for, requested_job};
 
 use crate::run::files_job::{FilesJob, Order};
+use crate::run::inputs_job::InputsJob;
+use crate::run::shard::Shard;
+use crate::run::shard_job::ShardJob;
 use opl_line::read_time;
-use osm_files::Format;
+use osm_files::{EndRule, Format};
 use osm_merge::Selection;
 use thiserror::Error;
 
@@ -71,6 +74,10 @@ pub struct FileRequest<'a> {
     pub end: Option<&'a str>,
     /// The format of the output.
     pub format: Format,
+    /// The shard of the output that is written, or none if all of it is written. Then each file has to be sorted.
+    pub shard: Option<Shard>,
+    /// The rule for the end of each file of a job for a shard. The other jobs have a rule for each file.
+    pub end_rule: EndRule,
 }
 
 impl<'a> FileRequest<'a> {
@@ -79,17 +86,32 @@ impl<'a> FileRequest<'a> {
     /// # Errors
     ///
     /// A fault of the times of `time-filter`.
-    pub fn run(&self) -> Result<FilesJob, RequestFault<'a>>
+    pub fn run(&self) -> Result<InputsJob, RequestFault<'a>>
         ensures { result ≡ requested_job self.now }
     {
         match self.selection() {
-            Ok(selection) => Ok(FilesJob {
+            Ok(selection) => Ok(self.job(selection)),
+            Err(fault) => Err(fault),
+        }
+    }
+
+    /// The job that writes what `selection` selects.
+    fn job(&self, selection: Selection) -> InputsJob
+        ensures { result ≡ job_for self.now.shard self.now selection }
+    {
+        match self.shard {
+            None => InputsJob::Whole(FilesJob {
                 selection,
                 order: self.order(),
                 tries_largest: self.tries_largest(),
                 format: self.format,
             }),
-            Err(fault) => Err(fault),
+            Some(shard) => InputsJob::Part(ShardJob {
+                shard,
+                selection,
+                format: self.format,
+                end: self.end_rule,
+            }),
         }
     }
 

@@ -1,8 +1,12 @@
 //! The shards of an output.
-ghost use Rattle.std.specs.Prelude.{◌≡◌, ◌↔◌, ◌≤◌, ℕ, None, IfSome, IsSome};
+ghost use Rattle.std.specs.Prelude.{◌≡◌, ◌↔◌, ◌≤◌, ℕ, None, IfSome, IsSome, IfOk, IfErr};
+ghost use Rattle.osm_files.specs.FileRuns.{IsReadFailure};
+ghost use Rattle.osm_mirror.specs.run.Bounds.{is_opl};
 ghost use Rattle.osm_mirror.specs.run.Shard.{SpellsShard};
 
 use crate::digits::read_decimal;
+use crate::run::shard_extent::opl_size;
+use osm_files::{Fault, ReadAt};
 
 /// The greatest number of shards of an output.
 const MOST_SHARDS: u64 = 9999;
@@ -44,6 +48,15 @@ impl Shard {
             _ => None,
         }
     }
+}
+
+/// Whether a file is OPL, of which a job for a shard reads only a part. It reads an o5 file up to the shard's end.
+pub fn is_opl<F: ReadAt>(file: &F) -> Result<bool, Fault>
+    ensures opl { IfOk result (λ is_so. IfSome (F.bytes file.now) (λ all. is_so ≡ is_opl all)) }
+    ensures refused { IfErr result (IsReadFailure (F.fails file.now)) }
+{
+    let size = opl_size(file, 0)?;
+    Ok(size.is_some())
 }
 
 #[cfg(test)]

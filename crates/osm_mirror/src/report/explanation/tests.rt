@@ -38,10 +38,10 @@ const REJECTIONS: [Reason; 25] = [
 fn each_reason_is_explained_once(rt: HostRuntime) {
     for reason in REJECTIONS {
         let name = reason.name();
-        assert!(rt; Explanation::named(name).is_some_and(|found| found.reason == name));
+        assert!(rt; Explanation::named(name).is_some_and(|found| found.name() == name));
     }
     for name in ["noend", "NOEND", "NoEnd"] {
-        assert!(rt; Explanation::named(name).is_some_and(|found| found.reason == "NoEnd"));
+        assert!(rt; Explanation::named(name).is_some_and(|found| found.name() == "NoEnd"));
     }
     for reason in [
         PlanReason::NotUtf8,
@@ -54,12 +54,10 @@ fn each_reason_is_explained_once(rt: HostRuntime) {
     for name in ["Memory", "Failed", "NoEndX", ""] {
         assert!(rt; Explanation::named(name).is_none());
     }
-    for (name, _, _) in REASONS {
+    for row in REASONS {
+        let name = row.name();
         assert_eq!(rt;
-            REASONS
-                .iter()
-                .filter(|(other, _, _)| *other == name)
-                .count(),
+            REASONS.iter().filter(|other| other.name() == name).count(),
             1
         );
     }

@@ -1,7 +1,9 @@
 //! The jobs of requests.
 use super::{Command, FileRequest, RequestFault};
 use crate::run::files_job::{FilesJob, Order};
-use osm_files::Format;
+use crate::run::inputs_job::InputsJob;
+use crate::run::shard::Shard;
+use osm_files::{EndRule, Format};
 use osm_merge::Selection;
 
 const EARLY: &str = "1970-01-01T00:00:10Z";
@@ -18,6 +20,8 @@ fn request<'a>(command: Command) -> FileRequest<'a> {
         time: None,
         end: None,
         format: Format::Opl,
+        shard: None,
+        end_rule: EndRule::Any,
     }
 }
 
@@ -48,13 +52,29 @@ fn commands_select_versions(rt: HostRuntime) {
             with_deletions,
             ..request(command)
         };
-        let run = FilesJob {
+        let run = InputsJob::Whole(FilesJob {
             selection,
             order: asked.order(),
             tries_largest: asked.tries_largest(),
             format: Format::Opl,
-        };
+        });
         assert_eq!(rt; asked.run(), Ok(run));
+    }
+}
+
+#[test]
+fn a_shard_is_a_part_of_the_job(rt: HostRuntime) {
+    let asked = FileRequest {
+        shard: Shard::new(2, 3),
+        end_rule: EndRule::LineFeed,
+        ..request(Command::Merge)
+    };
+    match asked.run() {
+        Ok(InputsJob::Part(job)) => {
+            assert_eq!(rt; Some(job.shard), asked.shard);
+            assert_eq!(rt; job.end, EndRule::LineFeed);
+        }
+        _ => assert!(rt; false),
     }
 }
 
