@@ -1,11 +1,11 @@
 //! Calls that read a slice of a file.
 use crate::device::{Buffer, OUTPUT_CAPACITY, Pace, Pieces};
 use crate::given::Given;
-use crate::printed::{line_of, printed};
+use crate::printed::printed;
 use crate::streams::outcome_text;
 use anyhow::{Result, bail};
 use osm_files::{
-    Broken, Fault, Format, FromRead, Input, Output, ReadAt, ToWrite, first_version, line_start,
+    Broken, Fault, Format, FromRead, Input, Output, ReadAt, ToWrite, first_key, line_start,
 };
 use osm_merge::{Counts, NoProgress, Outside, Selection, Span};
 use osm_mirror::{Slice, SliceFile, cut_offset, run_slice};
@@ -15,7 +15,7 @@ use std::alloc::Global;
 /// The calls.
 pub const CALLS: &[&str] = &[
     "line_start",
-    "first_version",
+    "first_key",
     "cut_offset",
     "run_slice",
     "run_slice_of_parts",
@@ -59,7 +59,7 @@ impl ReadAt for PacedFile<'_> {
 pub fn run_call(alloc: Global, call: &str, given: &Given) -> Result<Vec<u8>> {
     match call {
         "line_start" => start(alloc, given),
-        "first_version" => first(alloc, given),
+        "first_key" => first(alloc, given),
         "cut_offset" => cut(alloc, given),
         "run_slice" => write(alloc, Outside::Dropped, given),
         _ => write(alloc, Outside::Refused, given),
@@ -74,14 +74,17 @@ fn start(alloc: Global, given: &Given) -> Result<Vec<u8>> {
     printed(alloc, format!(in alloc; "{start}")?.as_str(), b"")
 }
 
-/// The first version of the lines of a file from an offset on.
+/// The id and the version number of the first version in the lines of a file from an offset on.
 fn first(alloc: Global, given: &Given) -> Result<Vec<u8>> {
     let offset = given.word(0)?.parse::<u64>()?;
     let file = given.paced_file(0)?;
     let size = size_of(&file)?;
     let start = line_start(&file, offset, size)?;
-    match first_version(alloc, &file, start, size)? {
-        Some(version) => line_of(alloc, &version),
+    match first_key(alloc, &file, start, size)? {
+        Some(key) => {
+            let text = format!(in alloc; "{} v{}", key.object.id, key.number)?;
+            printed(alloc, text.as_str(), b"")
+        }
         None => printed(alloc, "none", b""),
     }
 }
