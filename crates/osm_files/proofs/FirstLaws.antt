@@ -1,67 +1,35 @@
--- The first version of lines from an offset on.
-use Rattle.std.proofs.Common.{◌≡◌, ⊎_elim, inl, inr, ℕ, ◌+◌, ◌-◌, ◌≤◌, ◌<◌, ◌^◌, false, List, [], ◌∷◌, ◌++◌, length, take}
-use Rattle.std.proofs.Common.{refl, sym, ap, ◌∙◌, subst, arith, Option, Some, None, Result, Ok, Err, option_map, length-drop, nat_lt}
-use Rattle.std.proofs.lemmas.Bool.{lt-ltb, ltb-false, ltb-true}
-use Rattle.std.proofs.lemmas.List.{append-nil}
+-- The key of the first version of lines from an offset on.
+use Rattle.std.proofs.Common.{◌≡◌, ◌⊎◌, inl, inr, ⊎_elim, ℕ, zero, suc, ◌+◌, ◌-◌, ◌≤◌, ◌<◌, Bool, true, false, not, cond, min}
+use Rattle.std.proofs.Common.{List, [], ◌∷◌, ◌++◌, length, take, drop, filter, position, get_or, refl, sym, ap, ◌∙◌, subst, arith}
+use Rattle.std.proofs.Common.{Option, Some, None, IfSome, Result, Ok, Err, option_map, append_assoc, length-drop, add-one}
 use Rattle.std.proofs.Math.Seq.{take-append-add}
-use Rattle.std.proofs.lemmas.Option.{none-some}
+use Rattle.std.proofs.lemmas.Bool.{cases_lt}
+use Rattle.std.proofs.lemmas.List.{drop-drop, drop-append-le, length-take-le}
+use Rattle.std.proofs.lemmas.List.Elements.{filter-append}
+use Rattle.osm_model.specs.declared.object.Key.{Key}
 use Rattle.osm_model.specs.Data.{VersionData}
+use Rattle.osm_model.specs.Order.{key_of}
+use Rattle.osm_model.specs.Pairwise.{Pairwise}
+use Rattle.opl_line.specs.Delimiter.{is_line_end, with_byte, split_first, pieces_of}
+use Rattle.opl_line.specs.Reading.{is_skipped}
+use Rattle.opl_line.specs.Spells.{Spells, SpellsNothing}
+use Rattle.opl_line.proofs.CutLaws.{cut_split}
 use Rattle.osm_files.specs.declared.fault.Fault.{Fault}
-use Rattle.osm_files.specs.declared.reason.Reason.{Reason}
-use Rattle.osm_files.specs.declared.reason.Reason.TheVariants.{ReadFault}
-use Rattle.osm_files.specs.declared.extent.Extent.{Extent}
-use Rattle.osm_files.specs.Extent.{ExtentCanGive, extent_rest}
-use Rattle.osm_files.specs.ExtentGives.{extent_given}
-use Rattle.osm_files.specs.Input.{InputRest}
-use Rattle.osm_files.specs.Lines.{bytes_between, IsFirstOf, IsFirstIn, IsFirstBetween}
-use Rattle.osm_files.specs.Opl.{OplFile}
-use Rattle.osm_files.specs.Position.{Position, fault_of, with_rest, with_input, units_from, units_or_failed, closing_verdict, window}
-use Rattle.osm_files.specs.ReadAt.{known_bytes}
-use Rattle.osm_files.specs.Source.{SourceStep, StepsOn}
-use Rattle.osm_files.specs.Stream.{Verdict, verdict_at, Placed, SourceRest}
+use Rattle.osm_files.specs.declared.lines.Front.{Front}
+use Rattle.osm_files.specs.declared.lines.Front.TheVariants.{Keyed, Skipped}
+use Rattle.osm_files.specs.FileRuns.{IsReadFailure}
+use Rattle.osm_files.specs.LineKey.{first_line, IsKeyOf, IsKeyOfFront}
+use Rattle.osm_files.specs.Lines.{after_line, line_size, line_start_from, bytes_between, IsLineStart, IsFirstOf, IsFirstIn}
+use Rattle.osm_files.specs.Lines.{IsFirstBetween, SpellsAlso, AreSkipped, IsFront, IsLineRead}
+use Rattle.osm_files.specs.Opl.{is_read, OplFile}
+use Rattle.osm_files.specs.Position.{fault_of}
+use Rattle.osm_files.specs.ReadAt.{AreAt}
+use Rattle.osm_files.specs.Stream.{Verdict}
 use Rattle.osm_files.specs.Units.{InOpl, units}
-use Rattle.osm_files.specs.Verdict.{length_limit, versions_of}
-use Rattle.osm_files.proofs.FailureLaws.{failed_short, unfailed_long}
-use Rattle.osm_files.proofs.FaultyLaws.{Units, Splits, splits}
-use Rattle.osm_files.specs.declared.end_rule.EndRule.TheVariants as rule
-use Rattle.osm_files.specs.EndRule.{new_test}
-use Rattle.osm_files.proofs.PositionLaws.{from_is}
+use Rattle.osm_files.specs.Verdict.{versions_of}
+use Rattle.osm_files.proofs.JoinLaws.{lines_of}
+use Rattle.osm_files.proofs.KeyOrderLaws.{front_line, ended_lines, no_lines}
 use Rattle.osm_files.proofs.UnitLaws.{ReadsAs, opl_reads}
-
--- a reading of the lines of a file from an offset on
-abbrev pub of_lines : {R : Type 0} → ℕ → ℕ → R → Position R
-of_lines input offset reader = record {
-  input = input;
-  offset = offset;
-  held = [];
-  rest = reader;
-  stage = Some InOpl;
-  end = new_test rule.Any;
-  ended = false;
-  failed = false;
-}
-
--- the version of a line
-abbrev pub version_read : Result (Option Placed) Fault → Result (Option VersionData) Fault
-version_read (Ok line) = Ok (option_map (λ l. l.version) line)
-version_read (Err fault) = Err fault
-
--- the verdict that closes an input that ends below the limit, or is refused there
-abbrev closing : ℕ → InputRest → Option Verdict
-closing offset c = option_map (verdict_at (offset + length c.bytes)) c.failure
-
-closing_is : (offset : ℕ) (c : InputRest) → offset + length c.bytes < 2 ^ 62 → closing_verdict offset c ≡ closing offset c
-unfolding length_limit
-closing_is offset c short = rw (lt-ltb (offset + length c.bytes) (2 ^ 62) short) refl
-
-all_count : (offset : ℕ) (c : InputRest) → offset + length c.bytes < 2 ^ 62 → window offset c ≡ c.bytes
-unfolding length_limit
-all_count offset c short = rw (lt-ltb (offset + length c.bytes) (2 ^ 62) short) refl
-
-units_of_lines : (offset : ℕ) (c : InputRest) → offset + length c.bytes < 2 ^ 62 →
-    units_from (Some InOpl) offset c ≡ units (closing offset c) InOpl offset c.bytes
-units_of_lines offset c short =
-    from_is (Some InOpl) offset c ∙ (λ i. units (closing_is offset c short i) InOpl offset (all_count offset c short i))
 
 reads_lines : (offset : ℕ) (bytes : List ℕ) → ReadsAs (units None InOpl offset bytes) (OplFile bytes)
 unfolding units
@@ -72,153 +40,288 @@ pub lines_read : (bytes : List ℕ) (versions : List VersionData) → OplFile by
     versions_of (units None InOpl 0 bytes).list ≡ versions
 lines_read bytes versions file = ((reads_lines 0 bytes).read versions file).1
 
-not_refused : {E F : Type 0} (f : E → F) (refusal : Option E) (x : F) → option_map f refusal ≡ Some x → refusal ≡ None → ⊥
-not_refused f refusal x is none = none-some x (sym (ap (option_map f) none) ∙ is)
-
-first_listed : (us : List Placed) (line : Placed) (more : List Placed) (versions : List VersionData) → us ≡ line ∷ more →
-    versions_of us ≡ versions → IsFirstOf (Some line.version) versions
-first_listed us line more versions is same = subst (IsFirstOf (Some line.version)) (ap versions_of (sym is) ∙ same) refl
-
-none_listed : (us : List Placed) (versions : List VersionData) → us ≡ [] → versions_of us ≡ versions → IsFirstOf None versions
-none_listed us versions is same = subst (IsFirstOf None) (ap versions_of (sym is) ∙ same) refl
-
--- the result of the first call on the lines is a result for their first version
-first_in : (Fails : Type 0) (input offset : ℕ) (bytes : List ℕ) (result : Result (Option Placed) Fault)
-    (after : Option (SourceRest Placed Fault)) →
-    SourceStep (Some (with_input input (units None InOpl offset bytes))) result after → IsFirstIn Fails bytes (version_read result)
-first_in Fails input offset bytes (Ok None) after step = λ versions file.
-    let read = (reads_lines offset bytes).read versions file in
-    none_listed (units None InOpl offset bytes).list versions (ap (λ s. s.list) step.0) read.1
-first_in Fails input offset bytes (Ok (Some line)) after (t, is, rest) = λ versions file.
-    let read = (reads_lines offset bytes).read versions file in
-    first_listed (units None InOpl offset bytes).list line t.list versions (ap (λ s. s.list) is) read.1
-first_in Fails input offset bytes (Err fault) after (why, next) =
-    ⊎_elim (λ memory. inl (inl memory))
-    (λ refused. inr (λ versions file. not_refused (λ (v : Verdict). record { input = input; place = v.place; reason = v.reason })
-    (units None InOpl offset bytes).refusal fault (ap (λ s. s.refusal) refused) ((reads_lines offset bytes).read versions file).0)) why
-
--- The result of the first call on lines that an error follows is a result for the first version of these lines and of
--- whatever lines follow them.
-first_of_front : (Fails : Type 0) → Fails → (input offset : ℕ) (bytes more : List ℕ) (close : Verdict) → close.reason ≡ ReadFault
-    → Splits InOpl offset bytes → (result : Result (Option Placed) Fault) (later : Option (SourceRest Placed Fault)) →
-    SourceStep (Some (with_input input (units (Some close) InOpl offset bytes))) result later →
-    IsFirstIn Fails (bytes ++ more) (version_read result)
-first_of_front Fails may input offset bytes more close fails (inr h) result later step =
-    first_in Fails input offset (bytes ++ more) result later
-    (subst (λ (us : Units). SourceStep (Some (with_input input us)) result later) (h.faulty close ∙ sym (h.stays more None)) step)
-first_of_front Fails may input offset bytes more close fails (inl h) (Ok None) later step =
-    absurd (none-some (fault_of input close)
-    (sym (ap (λ s. s.refusal) step.0) ∙ ap (λ us. option_map (fault_of input) us.refusal) (h.closes close)))
-first_of_front Fails may input offset bytes more close fails (inl h) (Ok (Some line)) later (t, is, rest) = λ versions file.
-    let read = (reads_lines offset (bytes ++ more)).read versions file in
-    let whole = h.longer more None in
-    let listed : h.list ≡ line ∷ t.list = sym (ap (λ us. us.list) (h.closes close)) ∙ ap (λ s. s.list) is in
-    first_listed (units None InOpl offset (bytes ++ more)).list line (t.list ++ whole.0.list) versions
-    (ap (λ us. us.list) whole.1 ∙ ap (λ us. us ++ whole.0.list) listed) read.1
-first_of_front Fails may input offset bytes more close fails (inl h) (Err fault) later (why, next) =
-    inl (⊎_elim (λ memory. inl memory)
-    (λ refused.
-    let found : Some (fault_of input close) ≡ Some fault =
-    sym (ap (λ us. option_map (fault_of input) us.refusal) (h.closes close)) ∙ ap (λ s. s.refusal) refused in
-    let same : fault_of input close ≡ fault = cc in
-    inr (may, ap (λ f. f.reason) (sym same) ∙ fails)) why)
-
--- the bytes are all of the lines, or a front of them where the input fails
-abbrev IsFrontOf : List ℕ → List ℕ → Option Reason → Type 0
-IsFrontOf lines bytes failure = (rest : List ℕ) × (lines ≡ bytes ++ rest) × (failure ≡ None → rest ≡ [])
-
--- the result of the first call on an input that gives all of the lines, or a front of them and then an error
-first_of : (Fails : Type 0) (input offset : ℕ) (lines bytes : List ℕ) (failure : Option Reason)
-    → ((reason : Reason) → failure ≡ Some reason → Fails × (reason ≡ ReadFault))
-    → IsFrontOf lines bytes failure →
-    (result : Result (Option Placed) Fault) (later : Option (SourceRest Placed Fault)) →
-    SourceStep (Some (with_input input (units (closing offset (record { bytes = bytes; failure = failure })) InOpl offset bytes))) result
-    later
-    →
-    IsFirstIn Fails lines (version_read result)
-first_of Fails input offset lines bytes (Some reason) failing (rest, is, whole) result later step =
-    let fails = failing reason refl in
-    subst (λ (xs : List ℕ). IsFirstIn Fails xs (version_read result)) (sym is)
-    (first_of_front Fails fails.0 input offset bytes rest (verdict_at (offset + length bytes) reason) fails.1
-    (splits (length bytes) InOpl offset bytes (omega arith)) result later step)
-first_of Fails input offset lines bytes None failing (rest, is, whole) result later step =
-    subst (λ (xs : List ℕ). IsFirstIn Fails xs (version_read result)) (sym (is ∙ ap (λ r. bytes ++ r) (whole refl) ∙ append-nil bytes))
-    (first_in Fails input offset bytes result later step)
-
--- an extent within a file gives all of its bytes there, or a front of them and then an error
-extent_can : (Fails : Type 0) (all : List ℕ) (start end : ℕ) (c : InputRest) → ExtentCanGive Fails (Some all) start end c →
-    IsFrontOf (bytes_between start end all) c.bytes c.failure
-extent_can Fails all start end c gives =
-    let size = length c.bytes in
-    let left = end - start - size in
-    let few = gives.within in
-    let room : end - start ≡ size + left = omega (arith, few) in (
-      take left gives.bytes.0,
-      ap (take (end - start)) gives.bytes.1 ∙ ap (λ n. take n (c.bytes ++ gives.bytes.0)) room
-          ∙ take-append-add c.bytes gives.bytes.0 left,
-      λ whole. (
-          let long : end - start ≤ size = ltb-false size (end - start)
-          (unfailed_long (nat_lt size (end - start)) (sym gives.failure ∙ whole)) in
-          let none : left ≡ 0 = omega (arith, long) in
-          ap (λ n. take n gives.bytes.0) none),
-    )
-
--- if an extent within a file fails, reads of the file may fail
-extent_fails : (Fails : Type 0) (all : List ℕ) (start end : ℕ) (c : InputRest) → ExtentCanGive Fails (Some all) start end c →
-    end ≤ length all → (reason : Reason) → c.failure ≡ Some reason → Fails × (reason ≡ ReadFault)
-extent_fails Fails all start end c gives within reason failed =
-    let why = failed_short (nat_lt (length c.bytes) (end - start)) reason (sym gives.failure ∙ failed) in
-    let short = ltb-true (length c.bytes) (end - start) why.0 in (
-      ⊎_elim (λ fails. fails)
-          (λ last. absurd (omega (arith, short, ap length last, length-drop start all, within)))
-          (gives.why short),
-      why.1,
-    )
+-- the lines of a file spell one list of versions
+pub one_opl : (bytes : List ℕ) (versions others : List VersionData) → OplFile bytes versions → OplFile bytes others → versions ≡ others
+one_opl bytes versions others file other =
+    let h = reads_lines 0 bytes in sym (h.read versions file).1 ∙ (h.read others other).1
 
 pub refusal_input : (input : ℕ) (refusal : Option Verdict) (fault : Fault) → option_map (fault_of input) refusal ≡ Some fault →
     fault.input ≡ input
 refusal_input input None fault is = absurd (let e : None ≡ Some fault = is in cc)
 refusal_input input (Some v) fault is = let e : fault_of input v ≡ fault = cc in ap (λ f. f.input) (sym e)
 
-module _ {R : Type 0} (can : R → InputRest → Type 0) (one : R → InputRest) (possible : (r : R) → can r (one r)) (input : ℕ) where
-  -- The result of the first call on the lines from `start` up to `end` is a result for their first version.
-  first_given : (Fails : Type 0) (bytes : Option (List ℕ)) (start end : ℕ) (reader : R) → start < 2 ^ 62 →
-      ((c : InputRest) → can reader c → ExtentCanGive Fails bytes start end c) → (result : Result (Option Placed) Fault)
-      (q : Position R) → StepsOn can (of_lines input start reader) result q → IsFirstBetween Fails bytes start end (version_read result)
-  first_given Fails None start end reader bound gives result q steps = tt
-  first_given Fails (Some all) start end reader bound gives result q steps = λ short rises within.
-      let y = steps (one q.rest) (possible q.rest) in
-      let later : Option (SourceRest Placed Fault) = units_or_failed (with_rest q (one q.rest)) in
-      let extent : ExtentCanGive Fails (Some all) start end y.0 = gives y.0 y.1 in
-      let size = extent.within in
-      let few : start + length y.0.bytes < 2 ^ 62 = omega (arith, short, within, rises, size) in
-      first_of Fails input start (bytes_between start end all) y.0.bytes y.0.failure (extent_fails Fails all start end y.0 extent within)
-      (extent_can Fails all start end y.0 extent) result later
-      (subst (λ us. SourceStep (Some (with_input input us)) result later) (units_of_lines start y.0 few) y.2)
+-- ---- the first line
+after_split : (bytes : List ℕ) → filter is_read (pieces_of is_line_end (split_first is_line_end bytes).1) ≡ lines_of (after_line bytes)
+after_split [] = refl
+after_split (b ∷ bytes) =
+    elim (is_line_end b) as (λ t. filter is_read (pieces_of is_line_end
+    (cond t ([], Some bytes) (with_byte b (split_first is_line_end bytes))).1) ≡ lines_of (cond t bytes (after_line bytes))) [
+      | true ↦ refl
+      | false ↦ after_split bytes
+    ]
 
-module _ {F : Type 0} (fails : F → Type 0) (bytes : F → Option (List ℕ)) where
-  abbrev Given : Extent F → InputRest → Type 0
-  Given e = ExtentCanGive (fails e.file.now) (bytes e.file.now) e.next e.end
+-- the lines of some bytes are the first one and those after it
+first_lines : (bytes : List ℕ) → lines_of bytes ≡ filter is_read (first_line bytes ∷ []) ++ lines_of (after_line bytes)
+first_lines bytes =
+    ap (filter is_read) (cut_split is_line_end bytes)
+    ∙ filter-append is_read (first_line bytes ∷ []) (pieces_of is_line_end (split_first is_line_end bytes).1)
+    ∙ ap (λ ls. filter is_read (first_line bytes ∷ []) ++ ls) (after_split bytes)
 
-  abbrev one : Extent F → InputRest
-  one e = extent_rest e.next e.end (known_bytes (bytes e.file.now))
+-- lines after a line that is skipped
+after_skipped : (line : List ℕ) (more : List (List ℕ)) (versions : List VersionData) → is_skipped line ≡ true
+    → Pairwise Spells (filter is_read (line ∷ []) ++ more) versions → Pairwise Spells more versions
+after_skipped line more versions skipped file =
+    subst (λ t. Pairwise Spells (cond (not t) (line ∷ []) [] ++ more) versions) skipped file
 
-  possible : (e : Extent F) → Given e (one e)
-  possible e = extent_given (fails e.file.now) (bytes e.file.now) e.next e.end
+skips_line : (bytes : List ℕ) → is_skipped (first_line bytes) ≡ true → SpellsAlso bytes (after_line bytes)
+skips_line bytes skipped versions file =
+    after_skipped (first_line bytes) (lines_of (after_line bytes)) versions skipped
+    (subst (λ ls. Pairwise Spells ls versions) (first_lines bytes) file)
 
-  module _ (input start : ℕ) (reader : Extent F) (result : Result (Option Placed) Fault) (p q : Position (Extent F))
-      (begins : p ≡ of_lines input start reader) (step : StepsOn Given p result q) where
-    steps : StepsOn Given (of_lines input start reader) result q
-    steps = subst (λ (r : Position (Extent F)). StepsOn Given r result q) begins step
+keyed : (line : List ℕ) (key : Key) (more : List (List ℕ)) (versions : List VersionData)
+    → ((v : VersionData) → Spells line v → key_of v ≡ key) → Pairwise Spells (line ∷ more) versions → IsFirstOf (Some key) versions
+keyed line key more [] is file = absurd file
+keyed line key more (v ∷ versions) is file = ap Some (sym (is v file.0))
 
-    -- The result of the first call on the lines of a file from `start` up to `end` is a result for their first version.
-    pub first_is : (file : F) (end : ℕ) → reader.file.now ≡ file → reader.next ≡ start → reader.end ≡ end → start < 2 ^ 62
-        → IsFirstBetween (fails file) (bytes file) start end (version_read result)
-    first_is file end same from upto bound =
-        first_given Given one possible input (fails file) (bytes file) start end reader bound
-        (λ c. subst (λ (t : F × ℕ × ℕ). ExtentCanGive (fails t.0) (bytes t.0) t.1 t.2 c) (λ i. (same i, from i, upto i))) result q steps
+-- The key of the first line is the key of the first version.
+key_first : (Fails : Type 0) (bytes : List ℕ) (key : Key) → IsKeyOf (first_line bytes) key → IsFirstIn Fails bytes (Ok (Some key))
+key_first Fails bytes key (kept, is) = λ versions file.
+    keyed (first_line bytes) key (lines_of (after_line bytes)) versions is
+    (subst (λ t. Pairwise Spells (cond (not t) (first_line bytes ∷ []) [] ++ lines_of (after_line bytes)) versions) kept
+    (subst (λ ls. Pairwise Spells ls versions) (first_lines bytes) file))
 
--- the lines of a file spell one list of versions
-pub one_opl : (bytes : List ℕ) (versions others : List VersionData) → OplFile bytes versions → OplFile bytes others → versions ≡ others
-one_opl bytes versions others file other =
-    let h = reads_lines 0 bytes in sym (h.read versions file).1 ∙ (h.read others other).1
+nothing_first : (bytes : List ℕ) → SpellsNothing (first_line bytes) → (versions : List VersionData) → OplFile bytes versions → ⊥
+nothing_first bytes nothing versions file =
+    no_lines (first_line bytes) (lines_of (after_line bytes)) nothing versions
+    (subst (λ ls. Pairwise Spells ls versions) (first_lines bytes) file)
+
+-- ---- lines at the front of bytes that are skipped
+pub nothing_skipped : (bytes : List ℕ) → AreSkipped bytes 0
+nothing_skipped bytes more versions file = file
+
+skipped_front : (size : ℕ) (bytes : List ℕ) → (size ≡ 0) ⊎ (get_or bytes 0 0 ≡ 35) → is_skipped (take size bytes) ≡ true
+skipped_front zero bytes either = refl
+skipped_front (suc n) bytes (inl none) = absurd (omega (arith, none))
+skipped_front (suc n) [] (inr first) = refl
+skipped_front (suc n) (b ∷ bytes) (inr first) = ap (λ c. is_skipped (c ∷ take n bytes)) first
+
+-- One line more is skipped.
+pub skips_on : (bytes : List ℕ) (read size : ℕ) → AreSkipped bytes read → position is_line_end (drop read bytes) ≡ Some size
+    → (size ≡ 0) ⊎ (get_or (drop read bytes) 0 0 ≡ 35) → AreSkipped bytes (read + (size + 1))
+skips_on bytes read size so_far found either more versions file =
+    let rest : List ℕ = drop read bytes in
+    let line = front_line rest size found in
+    let whole : rest ++ more ≡ take size rest ++ line.end ∷ (drop (size + 1) rest ++ more) =
+    ap (λ xs. xs ++ more) line.whole ∙ append_assoc (take size rest) (line.end ∷ drop (size + 1) rest) more in
+    let lines = ap lines_of whole ∙ ended_lines (take size rest) line.end (drop (size + 1) rest ++ more) line.ends line.one in
+    subst (λ (xs : List ℕ). OplFile (xs ++ more) versions) (drop-drop (size + 1) read bytes)
+    (after_skipped (take size rest) (lines_of (drop (size + 1) rest ++ more)) versions (skipped_front size rest either)
+    (subst (λ ls. Pairwise Spells ls versions) lines (so_far more versions file)))
+
+-- ---- the first line between two offsets
+take_after : (n : ℕ) (bytes : List ℕ) → after_line (take n bytes) ≡ take (n - line_size bytes) (drop (line_size bytes) bytes)
+take_after zero bytes = ap (λ k. take k (drop (line_size bytes) bytes)) (let e : 0 ≡ 0 - line_size bytes = omega arith in e)
+take_after (suc n) [] = ap (λ k. take k []) (let e : suc n ≡ suc n - 0 = omega arith in e)
+take_after (suc n) (b ∷ bytes) =
+    elim (is_line_end b) as (λ t. cond t (take n bytes) (after_line (take n bytes))
+    ≡ take (suc n - cond t 1 (suc (line_size bytes))) (drop (cond t 1 (suc (line_size bytes))) (b ∷ bytes))) [
+      | true ↦ (let e : n ≡ suc n - 1 = omega arith in ap (λ k. take k bytes) e)
+      | false ↦ (let e : n - line_size bytes ≡ suc n - suc (line_size bytes) = omega arith in
+          take_after n bytes ∙ ap (λ k. take k (drop (line_size bytes) bytes)) e)
+    ]
+
+first_ends : (b : ℕ) (bytes : List ℕ) → is_line_end b ≡ true → first_line (b ∷ bytes) ≡ []
+first_ends b bytes e = ap (λ t. (cond t ([], Some bytes) (with_byte b (split_first is_line_end bytes))).0) e
+
+first_inside : (b : ℕ) (bytes : List ℕ) → is_line_end b ≡ false → first_line (b ∷ bytes) ≡ b ∷ first_line bytes
+first_inside b bytes e = ap (λ t. (cond t ([], Some bytes) (with_byte b (split_first is_line_end bytes))).0) e
+
+take_first : (n : ℕ) (bytes : List ℕ) → line_size bytes ≤ n → first_line (take (line_size bytes) bytes) ≡ first_line (take n bytes)
+take_first zero bytes few = (let none : line_size bytes ≡ 0 = omega (arith, few) in ap (λ k. first_line (take k bytes)) none)
+take_first (suc n) [] few = refl
+take_first (suc n) (b ∷ bytes) few =
+    elim (is_line_end b) as (λ t. is_line_end b ≡ t → cond t 1 (suc (line_size bytes)) ≤ suc n
+    → first_line (take (cond t 1 (suc (line_size bytes))) (b ∷ bytes)) ≡ first_line (b ∷ take n bytes)) [
+      | true ↦ λ e less. first_ends b [] e ∙ sym (first_ends b (take n bytes) e)
+      | false ↦ λ e less. first_inside b (take (line_size bytes) bytes) e
+          ∙ ap (λ xs. b ∷ xs) (take_first n bytes (omega (arith, less)))
+          ∙ sym (first_inside b (take n bytes) e)
+    ] refl few
+
+-- between the offsets `offset` and `end` of a file, the first line ends before `next`
+module _ (all : List ℕ) (offset end next : ℕ) (some : offset < end) (is : next ≡ min (line_start_from (offset + 1) all) end) where
+  abbrev later : List ℕ
+  later = drop offset all
+
+  at : next ≡ min (offset + line_size later) end
+  at = is ∙ ap (λ n. min (line_start_from n all) end) (add-one offset)
+
+  pub after_next : after_line (bytes_between offset end all) ≡ bytes_between next end all
+  after_next =
+      take_after (end - offset) later
+      ∙ ⊎_elim
+      (λ before.
+      let here : offset + line_size later ≡ next = omega (arith, at, before) in
+      let left : end - offset - line_size later ≡ end - next = omega (arith, here) in
+      ap (λ n. take n (drop (line_size later) later)) left
+      ∙ ap (take (end - next)) (drop-drop (line_size later) offset all ∙ ap (λ n. drop n all) here))
+      (λ late.
+      let none : end - offset - line_size later ≡ 0 = omega (arith, late) in
+      let over : end - next ≡ 0 = omega (arith, at, late) in
+      ap (λ n. take n (drop (line_size later) later)) none ∙ sym (ap (λ n. take n (drop next all)) over))
+      (cases_lt (offset + line_size later) end)
+
+  pub first_next : first_line (bytes_between offset next all) ≡ first_line (bytes_between offset end all)
+  first_next =
+      ⊎_elim
+      (λ before. ap (λ n. first_line (take n later)) (let e : next - offset ≡ line_size later = omega (arith, at, before) in e)
+      ∙ take_first (end - offset) later (omega (arith, before)))
+      (λ late. ap (λ n. first_line (take n later)) (let e : next - offset ≡ end - offset = omega (arith, at, late) in e))
+      (cases_lt (offset + line_size later) end)
+
+-- ---- the front of lines
+-- bytes that were read at an offset are the front of those up to a later one
+front_parts : (all : List ℕ) (offset end : ℕ) (bytes rest : List ℕ) → drop offset all ≡ bytes ++ rest → length bytes ≤ end - offset
+    → bytes_between offset end all ≡ bytes ++ take (end - offset - length bytes) rest
+front_parts all offset end bytes rest here few =
+    let long : end - offset ≡ length bytes + (end - offset - length bytes) = omega (arith, few) in
+    ap (take (end - offset)) here ∙ ap (λ n. take n (bytes ++ rest)) long ∙ take-append-add bytes rest (end - offset - length bytes)
+
+after_front : (all : List ℕ) (offset end size : ℕ) (bytes rest : List ℕ) → drop offset all ≡ bytes ++ rest
+    → length bytes ≤ end - offset → size ≤ length bytes
+    → drop size bytes ++ take (end - offset - length bytes) rest ≡ bytes_between (offset + size) end all
+after_front all offset end size bytes rest here few within =
+    let left : end - (offset + size) ≡ length (drop size bytes) + (end - offset - length bytes) =
+    omega (arith, few, within, length-drop size bytes) in
+    sym (ap (λ n. take n (drop (offset + size) all)) left
+    ∙ ap (take (length (drop size bytes) + (end - offset - length bytes)))
+    (sym (drop-drop size offset all) ∙ ap (drop size) here ∙ drop-append-le size bytes rest within)
+    ∙ take-append-add (drop size bytes) rest (end - offset - length bytes))
+
+-- the result of reading the front of lines, if the file's bytes are known
+abbrev pub FrontOf : Type 0 → Option (List ℕ) → ℕ → ℕ → Result Front Fault → Type 0
+FrontOf Fails known offset end result = IfSome known (λ all. end ≤ length all → IsFront Fails all offset end result)
+
+module _ (Fails : Type 0) (offset end : ℕ) (bytes : List ℕ) (few : length bytes ≤ end - offset) where
+  pub front_keyed : (known : Option (List ℕ)) (key : Key) → AreAt known offset bytes → IsKeyOfFront bytes key
+      → FrontOf Fails known offset end (Ok (Keyed key))
+  front_keyed None key at h = tt
+  front_keyed (Some all) key (rest, is_at) h = λ within.
+      let more = take (end - offset - length bytes) rest in
+      subst (λ xs. IsFirstIn Fails xs (Ok (Some key))) (sym (front_parts all offset end bytes rest is_at few))
+      (key_first Fails (bytes ++ more) key (h more))
+
+  pub front_skipped : (known : Option (List ℕ)) (size : ℕ) → AreAt known offset bytes → size ≤ length bytes → AreSkipped bytes size
+      → FrontOf Fails known offset end (Ok (Skipped (offset + size)))
+  front_skipped None size at within h = tt
+  front_skipped (Some all) size (rest, is_at) within h = λ inside versions file.
+      subst (λ (xs : List ℕ). OplFile xs versions) (after_front all offset end size bytes rest is_at few within)
+      (h (take (end - offset - length bytes) rest) versions
+      (subst (λ (xs : List ℕ). OplFile xs versions) (front_parts all offset end bytes rest is_at few) file))
+
+size_some : (bytes : List ℕ) → 0 < length bytes → 1 ≤ line_size bytes
+size_some [] some = absurd (omega (arith, some))
+size_some (b ∷ bytes) some = elim (is_line_end b) as (λ t. 1 ≤ cond t 1 (suc (line_size bytes))) [
+  | true ↦ omega arith
+  | false ↦ omega arith
+]
+
+comment_first : (bytes more : List ℕ) → 0 < length bytes → get_or bytes 0 0 ≡ 35 → is_skipped (first_line (bytes ++ more)) ≡ true
+comment_first [] more some first = absurd (omega (arith, some))
+comment_first (b ∷ bytes) more some first =
+    subst (λ c. is_skipped (first_line (c ∷ (bytes ++ more))) ≡ true) (sym first) refl
+
+module _ (Fails : Type 0) (offset end next found : ℕ) (some : offset < end) where
+  -- a line begins at `found`, which is within the bounds of `next`
+  clamped_start : (all : List ℕ) → end ≤ length all → found ≡ min (line_start_from (offset + 1) all) end
+      → (offset + 1 ≤ found → found ≤ end → next ≡ found) → next ≡ min (line_start_from (offset + 1) all) end
+  clamped_start all within is same =
+      let one : 1 ≤ line_size (drop offset all) = size_some (drop offset all) (omega (arith, length-drop offset all, some, within)) in
+      let step : line_start_from (offset + 1) all ≡ offset + line_size (drop offset all) =
+      ap (λ n. line_start_from n all) (add-one offset) in
+      same (omega (arith, is, one, step, some)) (omega (arith, is)) ∙ is
+
+  -- A comment is skipped.
+  pub front_comment : (known : Option (List ℕ)) (bytes : List ℕ) → IsLineStart known (offset + 1) end found
+      → (offset + 1 ≤ found → found ≤ end → next ≡ found) → length bytes ≤ end - offset → AreAt known offset bytes → 0 < length bytes
+      → get_or bytes 0 0 ≡ 35 → FrontOf Fails known offset end (Ok (Skipped next))
+  front_comment None bytes is same few at long first = tt
+  front_comment (Some all) bytes is same few (rest, is_at) long first = λ within.
+      let there = clamped_start all within is same in
+      let lines : List ℕ = bytes_between offset end all in
+      let skipped : is_skipped (first_line lines) ≡ true =
+      ap (λ xs. is_skipped (first_line xs)) (front_parts all offset end bytes rest is_at few)
+      ∙ comment_first bytes (take (end - offset - length bytes) rest) long first in
+      subst (SpellsAlso lines) (after_next all offset end next some there) (skips_line lines skipped)
+
+  line_front : (all : List ℕ) → next ≡ min (line_start_from (offset + 1) all) end → (result : Result Front Fault)
+      → IsLineRead Fails (first_line (bytes_between offset next all)) next result → IsFront Fails all offset end result
+  line_front all there (Ok (Keyed key)) h =
+      key_first Fails (bytes_between offset end all) key
+      (subst (λ xs. IsKeyOf xs key) (first_next all offset end next some there) h)
+  line_front all there (Ok (Skipped n)) (same, skipped) =
+      let lines : List ℕ = bytes_between offset end all in
+      subst (λ m. SpellsAlso lines (bytes_between m end all)) (sym same)
+      (subst (SpellsAlso lines) (after_next all offset end next some there)
+      (skips_line lines (ap is_skipped (sym (first_next all offset end next some there)) ∙ skipped)))
+  line_front all there (Err fault) (inl failure) = inl failure
+  line_front all there (Err fault) (inr nothing) =
+      inr (nothing_first (bytes_between offset end all) (subst SpellsNothing (first_next all offset end next some there) nothing))
+
+  -- Another line is read.
+  pub front_line_read : (known : Option (List ℕ)) → IsLineStart known (offset + 1) end found
+      → (offset + 1 ≤ found → found ≤ end → next ≡ found) → (result : Result Front Fault)
+      → IfSome known (λ all. next ≤ length all → IsLineRead Fails (first_line (bytes_between offset next all)) next result)
+      → FrontOf Fails known offset end result
+  front_line_read None is same result h = tt
+  front_line_read (Some all) is same result h = λ within.
+      let there = clamped_start all within is same in
+      line_front all there result (h (omega (arith, there, within)))
+
+-- ---- the search
+-- the lines from `offset` on spell what those from `start` on spell, if the file's bytes are known
+abbrev pub Passed : Option (List ℕ) → ℕ → ℕ → ℕ → Type 0
+Passed known start end offset = IfSome known (λ all. start ≤ end → end ≤ length all
+    → (offset ≤ end) × SpellsAlso (bytes_between start end all) (bytes_between offset end all))
+
+pub none_passed : (known : Option (List ℕ)) (start end : ℕ) → Passed known start end start
+none_passed None start end = tt
+none_passed (Some all) start end = λ rises within. (rises, λ versions file. file)
+
+pub more_passed : (Fails : Type 0) (known : Option (List ℕ)) (start end offset next : ℕ) → Passed known start end offset
+    → next ≤ end → FrontOf Fails known offset end (Ok (Skipped next)) → Passed known start end next
+more_passed Fails None start end offset next h few front = tt
+more_passed Fails (Some all) start end offset next h few front = λ rises within. (
+  few,
+  λ versions file. front within versions ((h rises within).1 versions file),
+)
+
+through : (Fails : Type 0) (lines others : List ℕ) (result : Result (Option Key) Fault) → SpellsAlso lines others
+    → IsFirstIn Fails others result → IsFirstIn Fails lines result
+through Fails lines others (Ok first) also h = λ versions file. h versions (also versions file)
+through Fails lines others (Err fault) also (inl failure) = inl failure
+through Fails lines others (Err fault) also (inr none) = inr (λ versions file. none versions (also versions file))
+
+pub first_keyed : (Fails : Type 0) (known : Option (List ℕ)) (start end offset : ℕ) (key : Key) → Passed known start end offset
+    → FrontOf Fails known offset end (Ok (Keyed key)) → IsFirstBetween Fails known start end (Ok (Some key))
+first_keyed Fails None start end offset key h front = tt
+first_keyed Fails (Some all) start end offset key h front = λ short rises within.
+    through Fails (bytes_between start end all) (bytes_between offset end all) (Ok (Some key)) (h rises within).1 (front within)
+
+pub first_refused : (Fails : Type 0) (known : Option (List ℕ)) (start end offset : ℕ) (fault : Fault) → Passed known start end offset
+    → FrontOf Fails known offset end (Err fault) → IsFirstBetween Fails known start end (Err fault)
+first_refused Fails None start end offset fault h front = tt
+first_refused Fails (Some all) start end offset fault h front = λ short rises within.
+    through Fails (bytes_between start end all) (bytes_between offset end all) (Err fault) (h rises within).1 (front within)
+
+nothing_keyed : (versions : List VersionData) → OplFile [] versions → IsFirstOf None versions
+nothing_keyed [] file = refl
+nothing_keyed (v ∷ versions) file = absurd file
+
+pub first_none : (Fails : Type 0) (known : Option (List ℕ)) (start end offset : ℕ) → Passed known start end offset
+    → end ≤ offset → IsFirstBetween Fails known start end (Ok None)
+first_none Fails None start end offset h over = tt
+first_none Fails (Some all) start end offset h over = λ short rises within versions file.
+    let none : end - offset ≡ 0 = omega (arith, over) in
+    nothing_keyed versions
+    (subst (λ n. OplFile (take n (drop offset all)) versions) none ((h rises within).1 versions file))

@@ -106,7 +106,7 @@ nothing_rises before (v ∷ versions) file = absurd file
 
 -- ---- one line
 -- bytes without the end of a line
-abbrev IsOneLine : List ℕ → Type 0
+abbrev pub IsOneLine : List ℕ → Type 0
 IsOneLine line = split_first is_line_end line ≡ (line, None)
 
 -- the first line of some bytes, with its end
@@ -143,7 +143,7 @@ last_rises : (before after : Option Key) (line : List ℕ) → IsOneLine line �
 last_rises before after line one step = λ versions file.
     step versions (subst (λ ls. Pairwise Spells ls versions) (only_line line one) file)
 
-ended_lines : (line : List ℕ) (end : ℕ) (more : List ℕ) → is_line_end end ≡ true → IsOneLine line
+pub ended_lines : (line : List ℕ) (end : ℕ) (more : List ℕ) → is_line_end end ≡ true → IsOneLine line
     → lines_of (line ++ end ∷ more) ≡ filter is_read (line ∷ []) ++ lines_of more
 ended_lines line end more ends one = lines_after end ends line more ∙ ap (λ ls. ls ++ lines_of more) (only_line line one)
 
@@ -153,7 +153,7 @@ line_rises before after line end ends one step = λ versions file.
     step versions (subst (λ ls. Pairwise Spells ls versions)
     (ended_lines line end [] ends one ∙ append-nil (filter is_read (line ∷ []))) file)
 
-no_lines : (line : List ℕ) (more : List (List ℕ)) → SpellsNothing line → (versions : List VersionData)
+pub no_lines : (line : List ℕ) (more : List (List ℕ)) → SpellsNothing line → (versions : List VersionData)
     → Pairwise Spells (filter is_read (line ∷ []) ++ more) versions → ⊥
 no_lines line more nothing versions =
     elim (is_skipped line) as (λ t. is_skipped line ≡ t → Pairwise Spells (cond (not t) (line ∷ []) [] ++ more) versions → ⊥) [
@@ -209,23 +209,21 @@ pub nothing_read : (window : List ℕ) (before : Option Key) → ReadTo window b
 nothing_read window before = record { within = omega arith; ends = inl refl; rise = nothing_rises before }
 
 -- the line at the front of some bytes
-record FrontLine (bytes : List ℕ) (size : ℕ) : Type 0 where
-  end : ℕ
-  after : List ℕ
-  ends : is_line_end end ≡ true
-  whole : bytes ≡ take size bytes ++ end ∷ after
-  one : IsOneLine (take size bytes)
-  within : size < length bytes
-  front : take (size + 1) bytes ≡ take size bytes ++ end ∷ []
+pub record FrontLine (bytes : List ℕ) (size : ℕ) : Type 0 where
+  pub end : ℕ
+  pub ends : is_line_end end ≡ true
+  pub whole : bytes ≡ take size bytes ++ end ∷ drop (size + 1) bytes
+  pub one : IsOneLine (take size bytes)
+  pub within : size < length bytes
+  pub front : take (size + 1) bytes ≡ take size bytes ++ end ∷ []
 
-front_line : (bytes : List ℕ) (size : ℕ) → position is_line_end bytes ≡ Some size → FrontLine bytes size
+pub front_line : (bytes : List ℕ) (size : ℕ) → position is_line_end bytes ≡ Some size → FrontLine bytes size
 front_line bytes size found =
     let at = split_at is_line_end bytes size found in
     let p : Parted bytes (take size bytes, Some (drop (size + 1) bytes)) = subst (Parted bytes) at.split (parted bytes) in
     let long : length (take size bytes) ≡ size = length-take-le size bytes (omega (arith, at.within)) in
     record {
       end = p.0;
-      after = drop (size + 1) bytes;
       ends = p.1;
       whole = p.2;
       one = p.3;
@@ -283,13 +281,13 @@ module _ (window : List ℕ) (before : Option Key) (read : ℕ) (last : Option K
     stops_at is_last size (Refused reason) found (inl memory) = inl memory
     stops_at is_last size (Refused reason) found (inr nothing) = inr (λ more only.
         let line = front_line rest size found in
-        let whole : window ++ more ≡ take read window ++ (take size rest ++ line.end ∷ (line.after ++ more)) =
+        let whole : window ++ more ≡ take read window ++ (take size rest ++ line.end ∷ (drop (size + 1) rest ++ more)) =
         ap (λ xs. xs ++ more) (parts ∙ ap (λ xs. take read window ++ xs) line.whole)
-        ∙ append_assoc (take read window) (take size rest ++ line.end ∷ line.after) more
-        ∙ ap (λ xs. take read window ++ xs) (append_assoc (take size rest) (line.end ∷ line.after) more) in
+        ∙ append_assoc (take read window) (take size rest ++ line.end ∷ drop (size + 1) rest) more
+        ∙ ap (λ xs. take read window ++ xs) (append_assoc (take size rest) (line.end ∷ drop (size + 1) rest) more) in
         subst IsNoFile (sym whole)
-        (no_file_after (take read window) (take size rest ++ line.end ∷ (line.after ++ more)) done.ends
-        (no_line (take size rest) line.end (line.after ++ more) line.ends line.one nothing)))
+        (no_file_after (take read window) (take size rest ++ line.end ∷ (drop (size + 1) rest ++ more)) done.ends
+        (no_line (take size rest) line.end (drop (size + 1) rest ++ more) line.ends line.one nothing)))
 
     module _ (none : position is_line_end rest ≡ None) where
       one_rest : IsOneLine rest

@@ -1,10 +1,10 @@
 -- The key in a line of the usual form is the key of the version that the line spells.
-use Rattle.std.proofs.Common.{◌≡◌, ℕ, ℤ, pos, neg_ℤ, ◌<◌, ◌^◌, eqb, Bool, true, false, not, cond}
+use Rattle.std.proofs.Common.{◌≡◌, ℕ, ℤ, pos, neg_ℤ, ◌<◌, ◌^◌, eqb, Bool, true, false, not, ◌&&◌, cond}
 use Rattle.std.proofs.Common.{List, [], ◌∷◌, ◌++◌, length, drop, map, fold, filter, nat_eq, get_or, Option, Some, None, unwrap_or}
-use Rattle.std.proofs.Common.{Ok, refl, sym, ap, ◌∙◌, subst, arith, append-nil}
+use Rattle.std.proofs.Common.{Ok, refl, sym, ap, ◌∙◌, subst, arith, append-nil, append_assoc}
 use Rattle.std.specs.List.{list_all, IsDistinct, AllByRecursion}
 use Rattle.std.specs.Char.{is_ascii_digit}
-use Rattle.std.proofs.lemmas.Bool.{and_parts, eqb-true, true≢false}
+use Rattle.std.proofs.lemmas.Bool.{and_parts, eqb-true, not-true, true≢false}
 use Rattle.std.proofs.lemmas.Bool.Decides.{nat_tests}
 use Rattle.osm_model.specs.declared.object.Key.{Key}
 use Rattle.osm_model.specs.declared.kind.Kind.{Kind}
@@ -19,7 +19,7 @@ use Rattle.osm_model.specs.New.{first_fault, unless_faulty}
 use Rattle.osm_model.specs.Order.{key_of}
 use Rattle.osm_model.specs.Pairwise.{Pairwise}
 use Rattle.opl_line.specs.Content.{SpellsNumeral, SpellsId, plain_id, minus_id, SpellsObject}
-use Rattle.opl_line.specs.Delimiter.{is_blank, split_all, pieces_of}
+use Rattle.opl_line.specs.Delimiter.{is_blank, is_line_end, with_byte, split_first, split_all, pieces_of}
 use Rattle.opl_line.specs.Field.{no_fields}
 use Rattle.opl_line.specs.Number.{is_numeral, decimal_value}
 use Rattle.opl_line.specs.Part.{LinePart, letter_of, SpellsPart, with_part}
@@ -30,7 +30,7 @@ use Rattle.opl_line.proofs.ContentLaws.{all_weaker}
 use Rattle.opl_line.proofs.CutLaws.{cut_split, split_front, split_never}
 use Rattle.opl_line.proofs.SpellsLaws.{object_read, one_reading}
 use Rattle.o5_codec.proofs.WrittenLists.{heads}
-use Rattle.osm_files.specs.LineKey.{IsKeyOf, BeginsWithNumeral, BeginsWithId, is_field_end}
+use Rattle.osm_files.specs.LineKey.{IsKeyOf, IsKeyOfFront, first_line, BeginsWithNumeral, BeginsWithId, BeginsAsVersion, is_field_end}
 
 -- ---- the version number
 -- a field that begins with `v` and a numeral is the version number
@@ -155,21 +155,28 @@ spelled_key line key field digits more pieces id number v s =
 abbrev is_free : ℕ → Bool
 is_free b = not (is_blank b)
 
-digit_free : (b : ℕ) → is_ascii_digit b ≡ true → is_free b ≡ true
-digit_free b e = grind (arith, nat_tests)
+-- neither a field nor a line ends at the byte
+abbrev is_inner : ℕ → Bool
+is_inner b = not (is_line_end b) && is_free b
 
-numeral_free : (digits : List ℕ) → is_numeral digits ≡ true → list_all is_free digits ≡ true
-numeral_free digits is =
-    all_weaker is_ascii_digit is_free digit_free digits (and_parts (not (eqb (length digits) 0)) (list_all is_ascii_digit digits) is).1
+digit_inner : (b : ℕ) → is_ascii_digit b ≡ true → is_inner b ≡ true
+digit_inner b e = grind (arith, nat_tests)
 
-id_free : (field : List ℕ) (id : ℤ) → SpellsId field id → list_all is_free field ≡ true
-id_free field id (plain_id digits n s) = numeral_free digits s.digits_spell.numeral
-id_free field id (minus_id digits n s) = numeral_free digits s.digits_spell.numeral
+numeral_inner : (digits : List ℕ) → is_numeral digits ≡ true → list_all is_inner digits ≡ true
+numeral_inner digits is =
+    all_weaker is_ascii_digit is_inner digit_inner digits (and_parts (not (eqb (length digits) 0)) (list_all is_ascii_digit digits) is).1
 
-letter_free : (k : Kind) (field : List ℕ) → list_all is_free field ≡ true → list_all is_free (kind_letter k ∷ field) ≡ true
-letter_free kind.Node field h = h
-letter_free kind.Way field h = h
-letter_free kind.Relation field h = h
+id_inner : (field : List ℕ) (id : ℤ) → SpellsId field id → list_all is_inner field ≡ true
+id_inner field id (plain_id digits n s) = numeral_inner digits s.digits_spell.numeral
+id_inner field id (minus_id digits n s) = numeral_inner digits s.digits_spell.numeral
+
+letter_inner : (k : Kind) (field : List ℕ) → list_all is_inner field ≡ true → list_all is_inner (kind_letter k ∷ field) ≡ true
+letter_inner kind.Node field h = h
+letter_inner kind.Way field h = h
+letter_inner kind.Relation field h = h
+
+inner_free : (field : List ℕ) → list_all is_inner field ≡ true → list_all is_free field ≡ true
+inner_free field inner = all_weaker is_inner is_free (λ b is. (and_parts (not (is_line_end b)) (is_free b) is).1) field inner
 
 first_piece : (front rest : List ℕ) → list_all is_free front ≡ true
     → split_all is_blank (front ++ 32 ∷ rest) ≡ front ∷ split_all is_blank rest
@@ -190,27 +197,65 @@ ended_piece front (b ∷ rest) free ends = (
   ap (λ c. split_all is_blank (front ++ c ∷ rest)) (eqb-true b 32 ends) ∙ first_piece front rest free,
 )
 
+-- the first line of bytes at whose front no line ends
+inner_front : (front rest : List ℕ) → list_all is_inner front ≡ true → first_line (front ++ rest) ≡ front ++ first_line rest
+inner_front [] rest inner = refl
+inner_front (b ∷ front) rest inner =
+    let parts = and_parts (is_inner b) (list_all is_inner front) inner in
+    let stays = not-true (is_line_end b) (and_parts (not (is_line_end b)) (is_free b) parts.0).0 in
+    ap (λ t. (cond t ([], Some (front ++ rest)) (with_byte b (split_first is_line_end (front ++ rest)))).0) stays
+    ∙ ap (λ xs. b ∷ xs) (inner_front front rest parts.1)
+
 not_comment : (k : Kind) (bytes : List ℕ) → is_skipped (kind_letter k ∷ bytes) ≡ false
 not_comment kind.Node bytes = refl
 not_comment kind.Way bytes = refl
 not_comment kind.Relation bytes = refl
 
--- A line of the usual form has its key.
-pub usual_line : (line : List ℕ) (key : Key) (after_letter after_id after_space after_v rest : List ℕ)
-    → line ≡ kind_letter key.object.kind ∷ after_letter → BeginsWithId after_letter key.object.id after_id → after_id ≡ 32 ∷ after_space
-    → after_space ≡ 118 ∷ after_v → BeginsWithNumeral after_v key.number rest → is_field_end rest ≡ true → IsKeyOf line key
-usual_line line key after_letter after_id after_space after_v rest letter (field, id_is, id) space v (digits, number_is, number) ends =
-    let object : List ℕ = kind_letter key.object.kind ∷ field in
-    let free : list_all is_free object ≡ true = letter_free key.object.kind field (id_free field key.object.id id) in
-    let piece = ended_piece (118 ∷ digits) rest (numeral_free digits number.numeral) ends in
-    let whole : line ≡ object ++ 32 ∷ 118 ∷ (digits ++ rest) =
-    letter ∙ ap (λ xs. kind_letter key.object.kind ∷ xs)
-    (id_is ∙ ap (λ xs. field ++ xs) (space ∙ ap (λ xs. 32 ∷ xs) (v ∙ ap (λ xs. 118 ∷ xs) number_is))) in
-    let pieces : split_all is_blank line ≡ object ∷ (118 ∷ digits) ∷ piece.0 =
-    ap (split_all is_blank) whole ∙ first_piece object (118 ∷ (digits ++ rest)) free ∙ ap (λ ps. object ∷ ps) piece.1 in (
-      ap is_skipped letter ∙ not_comment key.object.kind after_letter,
-      spelled_key line key field digits piece.0 pieces id number,
-    )
+-- A text that begins with an object, a space, `v` and a number begins with a key.
+pub begins_with_key : (text : List ℕ) (key : Key) (after_letter after_id after_space after_v rest : List ℕ)
+    → text ≡ kind_letter key.object.kind ∷ after_letter → BeginsWithId after_letter key.object.id after_id → after_id ≡ 32 ∷ after_space
+    → after_space ≡ 118 ∷ after_v → BeginsWithNumeral after_v key.number rest → BeginsAsVersion text key rest
+begins_with_key text key after_letter after_id after_space after_v rest letter (field, id_is, id) space v (digits, number_is, number) =
+    record {
+      id = field;
+      number = digits;
+      is = letter ∙ ap (λ xs. kind_letter key.object.kind ∷ xs)
+          (id_is ∙ ap (λ xs. field ++ xs) (space ∙ ap (λ xs. 32 ∷ xs) (v ∙ ap (λ xs. 118 ∷ xs) number_is)));
+      spells_id = id;
+      spells_number = number;
+    }
+
+module _ (key : Key) where
+  -- A line of the usual form has its key.
+  pub usual_line : (line rest : List ℕ) → BeginsAsVersion line key rest → is_field_end rest ≡ true → IsKeyOf line key
+  usual_line line rest h ends =
+      let object : List ℕ = kind_letter key.object.kind ∷ h.id in
+      let free : list_all is_free object ≡ true =
+      inner_free object (letter_inner key.object.kind h.id (id_inner h.id key.object.id h.spells_id)) in
+      let piece = ended_piece (118 ∷ h.number) rest (inner_free h.number (numeral_inner h.number h.spells_number.numeral)) ends in
+      let pieces : split_all is_blank line ≡ object ∷ (118 ∷ h.number) ∷ piece.0 =
+      ap (split_all is_blank) h.is ∙ first_piece object (118 ∷ (h.number ++ rest)) free ∙ ap (λ ps. object ∷ ps) piece.1 in (
+        ap is_skipped h.is ∙ not_comment key.object.kind (h.id ++ 32 ∷ 118 ∷ (h.number ++ rest)),
+        spelled_key line key h.id h.number piece.0 pieces h.spells_id h.spells_number,
+      )
+
+  -- A line of the usual form has its key, also if its end isn't known.
+  pub usual_front : (bytes rest after : List ℕ) → BeginsAsVersion bytes key rest → rest ≡ 32 ∷ after → IsKeyOfFront bytes key
+  usual_front bytes rest after h space more =
+      let object : List ℕ = kind_letter key.object.kind ∷ h.id in
+      let later : List ℕ = first_line (after ++ more) in
+      let whole : bytes ++ more ≡ object ++ 32 ∷ 118 ∷ (h.number ++ 32 ∷ (after ++ more)) =
+      ap (λ xs. xs ++ more) (h.is ∙ ap (λ xs. object ++ 32 ∷ 118 ∷ (h.number ++ xs)) space)
+      ∙ append_assoc object (32 ∷ 118 ∷ (h.number ++ 32 ∷ after)) more
+      ∙ ap (λ xs. object ++ 32 ∷ 118 ∷ xs) (append_assoc h.number (32 ∷ after) more) in
+      let line : first_line (bytes ++ more) ≡ object ++ 32 ∷ 118 ∷ (h.number ++ 32 ∷ later) =
+      ap first_line whole
+      ∙ inner_front object (32 ∷ 118 ∷ (h.number ++ 32 ∷ (after ++ more)))
+      (letter_inner key.object.kind h.id (id_inner h.id key.object.id h.spells_id))
+      ∙ ap (λ xs. object ++ 32 ∷ 118 ∷ xs)
+      (inner_front h.number (32 ∷ (after ++ more)) (numeral_inner h.number h.spells_number.numeral)) in
+      usual_line (first_line (bytes ++ more)) (32 ∷ later)
+      (record { id = h.id; number = h.number; is = line; spells_id = h.spells_id; spells_number = h.spells_number }) refl
 
 -- ---- numerals and ids at the front of a text
 -- A number of at most 18 digits is an id.

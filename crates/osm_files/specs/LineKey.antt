@@ -4,8 +4,10 @@ use Rattle.std.specs.Prelude.{Option, Some, None, Result, Ok, Err}
 use Rattle.std.specs.Ordering.{is_lt}
 use Rattle.osm_model.specs.declared.object.Key.{Key}
 use Rattle.osm_model.specs.Data.{VersionData}
+use Rattle.osm_model.specs.Kind.{kind_letter}
 use Rattle.osm_model.specs.Order.{key_of, key_order}
 use Rattle.opl_line.specs.Content.{SpellsId, SpellsNumeral}
+use Rattle.opl_line.specs.Delimiter.{is_line_end, split_first}
 use Rattle.opl_line.specs.Reading.{is_skipped}
 use Rattle.opl_line.specs.Spells.{Spells, SpellsNothing}
 use Rattle.opl_line.specs.declared.reason.OplReason.{OplReason}
@@ -19,6 +21,14 @@ is_key_below key (Some before) = is_lt (key_order key before)
 -- the line isn't skipped, and each version that it spells has this key
 abbrev pub IsKeyOf : List ℕ → Key → Type 0
 IsKeyOf line key = (is_skipped line ≡ false) × ((v : VersionData) → Spells line v → key_of v ≡ key)
+
+-- the first line of some bytes, without its end
+abbrev pub first_line : List ℕ → List ℕ
+first_line bytes = (split_first is_line_end bytes).0
+
+-- the line at the front of the bytes has this key, whatever follows the bytes
+abbrev pub IsKeyOfFront : List ℕ → Key → Type 0
+IsKeyOfFront bytes key = (more : List ℕ) → IsKeyOf (first_line (bytes ++ more)) key
 
 -- the result of reading the key of a line
 abbrev pub IsKeyRead : List ℕ → Result (Option Key) OplReason → Type 0
@@ -34,6 +44,14 @@ BeginsWithNumeral text n rest = (digits : List ℕ) × (text ≡ digits ++ rest)
 -- an id, and then the rest
 abbrev pub BeginsWithId : List ℕ → ℤ → List ℕ → Type 0
 BeginsWithId text id rest = (field : List ℕ) × (text ≡ field ++ rest) × SpellsId field id
+
+-- an object, a space, `v` and a version number, and then the rest
+pub record BeginsAsVersion (text : List ℕ) (key : Key) (rest : List ℕ) : Type 0 where
+  pub id : List ℕ
+  pub number : List ℕ
+  pub is : text ≡ kind_letter key.object.kind ∷ (id ++ 32 ∷ 118 ∷ (number ++ rest))
+  pub spells_id : SpellsId id key.object.id
+  pub spells_number : SpellsNumeral number key.number
 
 -- does the line or a field end before this text?
 abbrev pub is_field_end : List ℕ → Bool

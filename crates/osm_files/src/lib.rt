@@ -45,7 +45,7 @@ pub use file_runs::find_runs;
 pub use format::{FORMAT_NAMES, Format};
 pub use history_source::HistorySource;
 pub use input::{Broken, FromRead, Input, SliceIn};
-pub use lines::{first_version, line_start};
+pub use lines::{first_key, line_start};
 pub use load::{Loaded, find_fault, load_any, load_ended};
 pub use o5::O5_START;
 pub use output::{Output, ToWrite, VecOut};

@@ -55,17 +55,30 @@ pub(crate) fn read_key(reader: &mut LineReader, line: &[u8]) -> Result<Option<Ke
 fn usual_key(line: &[u8]) -> Option<Key>
     ensures { IfSome result (spec.IsKeyOf line.now) }
 {
-    let (kind, text) = strip_kind(line)?;
+    let (key, rest) = strip_key(line)?;
+    if is_field_end(rest) { Some(key) } else { None }
+}
+
+/// The key in the line at the front of `bytes`, if the line has the usual form and more fields; `None` for other lines.
+/// The line needn't end in `bytes`.
+pub(crate) fn front_key(bytes: &[u8]) -> Option<Key>
+    ensures { IfSome result (spec.IsKeyOfFront bytes.now) }
+{
+    let (key, rest) = strip_key(bytes)?;
+    strip_byte(rest, b' ')?;
+    Some(key)
+}
+
+/// The key at the front of a text of the usual form, and the text after it.
+fn strip_key(text: &[u8]) -> Option<(Key, &[u8])>
+    ensures { IfSome result (λ read. spec.BeginsAsVersion text.now read.0 read.1.now) }
+{
+    let (kind, text) = strip_kind(text)?;
     let (id, text) = strip_id(text)?;
     let text = strip_byte(strip_byte(text, b' ')?, b'v')?;
     let (number, text) = strip_number(text, MOST_NUMBER_DIGITS)?;
-    if !is_field_end(text) {
-        return None;
-    }
-    Some(Key {
-        object: Object { kind, id },
-        number,
-    })
+    let object = Object { kind, id };
+    Some((Key { object, number }, text))
 }
 
 /// The kind of the letter at the front of a text, and the text after it.

@@ -1,16 +1,18 @@
 //! The lines of an OPL file from an offset on.
-ghost use Rattle.std.specs.Prelude.{◌<◌, length, IfOk, IfErr};
+ghost use Rattle.std.specs.Prelude.{◌≡◌, ◌<◌, ◌≤◌, length, IfOk, IfErr, IfSome};
 ghost use Rattle.osm_files.specs.FileRuns.{IsReadFailure};
-ghost use Rattle.osm_files.specs.Lines.{IsLineStart, IsFirstBetween};
+ghost use Rattle.osm_files.specs.LineKey as spec;
+ghost use Rattle.osm_files.specs.Lines.{IsLineStart, IsFirstBetween, IsFront, IsOnward, AreSkipped, IsLineRead};
+ghost use Rattle.osm_files.specs.Lines.{bytes_between};
 
-use crate::extent::Extent;
-use crate::fault::{Fault, LENGTH_LIMIT};
+use crate::fault::Fault;
 use crate::input::Broken;
+use crate::key_order::read_exact;
+use crate::line_key::{front_key, read_key};
 use crate::read_at::ReadAt;
-use crate::reading::Reading;
 use crate::reason::Reason;
-use opl_line::find_line_end;
-use osm_model::Version;
+use opl_line::{LineReader, find_line_end};
+use osm_model::Key;
 use std::alloc::Global;
 
 /// The number of bytes that the first read of a search asks for.
@@ -78,32 +80,119 @@ fn search<F: ReadAt>(file: &F, offset: u64, end: u64, buffer: &mut [u8]) -> Resu
     Ok(end)
 }
 
-/// The first version in the lines of an OPL file from the offset `start`, at which a line begins, up to the offset
-/// `end`; `None` if they hold no version.
+/// What the front of some lines shows.
+#[derive(Clone, Copy, Debug)]
+enum Front {
+    /// The key of the first version.
+    Keyed(Key),
+    /// The lines before this offset are skipped.
+    Skipped(u64),
+}
+
+/// The key of the first version in the lines of an OPL file from the offset `start`, at which a line begins, up to the
+/// offset `end`; `None` if they hold no version.
+///
+/// The rest of a line of the usual form isn't read, so the line has a key even if it spells no version. The search
+/// doesn't keep a comment, however long it is.
 ///
 /// # Errors
 ///
 /// The reason why the first line that isn't skipped can't be read, at the line's offset in the file. `ReadFault` if the
-/// file can't be read; `TooLong` if `start` is 2^62 or more; or `Memory`. The fault has the number 0.
-pub fn first_version<F: ReadAt>(
+/// file can't be read or is shorter; or `Memory`. The fault has the number 0.
+pub fn first_key<F: ReadAt>(
     alloc: Global,
     file: &F,
     start: u64,
     end: u64,
-) -> Result<Option<Version>, Fault>
+) -> Result<Option<Key>, Fault>
     ensures first { IsFirstBetween (F.fails file.now) (F.bytes file.now) start end result }
 {
-    if start >= LENGTH_LIMIT {
-        return Err(Fault::too_long(0));
+    let mut buffer = [0u8; NEAR];
+    let mut offset = start;
+    'fronts: while offset < end {
+        match read_front(alloc, file, offset, end, &mut buffer)? {
+            Front::Keyed(key) => return Ok(Some(key)),
+            Front::Skipped(next) => offset = next,
+        }
     }
-    let mut lines = Reading::of_lines(alloc, 0, start, Extent::new(file, start, end));
-    lines.set_first_chunk_size(NEAR);
-    let first = lines.next();
-    drop(lines);
-    match first {
-        Ok(Some(line)) => Ok(Some(line.version)),
-        Ok(None) => Ok(None),
-        Err(fault) => Err(fault),
+    Ok(None)
+}
+
+/// The front of the lines of a file from `offset`, at which a line begins, up to `end`. It is read into `buffer`.
+fn read_front<F: ReadAt>(
+    alloc: Global,
+    file: &F,
+    offset: u64,
+    end: u64,
+    buffer: &mut [u8],
+) -> Result<Front, Fault>
+    requires some { offset < end }
+    requires room { 0 < length buffer.old }
+    ensures front { IfSome (F.bytes file.now) (λ all. end ≤ length all
+        → IsFront (F.fails file.now) all offset end result) }
+    ensures onward { IfOk result (IsOnward offset end) }
+{
+    let most = (end - offset).min(buffer.len() as u64) as usize;
+    let count = match file.read_at(&mut buffer[..most], offset) {
+        Ok(0) => return Err(Fault::at(0, offset, Reason::ReadFault)),
+        Ok(count) => count,
+        Err(Broken) => return Err(Fault::at(0, offset, Reason::ReadFault)),
+    };
+    let bytes = &buffer[..count];
+    if let Some(key) = front_key(bytes) {
+        return Ok(Front::Keyed(key));
+    }
+    let size = skipped_size(bytes);
+    if size > 0 {
+        return Ok(Front::Skipped(offset + size as u64));
+    }
+    let next = line_start(file, offset + 1, end)?.clamp(offset + 1, end);
+    if bytes[0] == b'#' {
+        return Ok(Front::Skipped(next));
+    }
+    read_line(alloc, file, offset, next)
+}
+
+/// The number of bytes of the lines at the front of `bytes` that are skipped and end in `bytes`.
+fn skipped_size(bytes: &[u8]) -> usize
+    ensures within { result ≤ length bytes.now }
+    ensures skipped { AreSkipped bytes.now result }
+{
+    let mut read = 0;
+    'lines: loop {
+        let rest = &bytes[read..];
+        let Some(size) = find_line_end(rest) else {
+            return read;
+        };
+        if size > 0 && rest[0] != b'#' {
+            return read;
+        }
+        read += size + 1;
+    }
+}
+
+/// The line of a file from `offset` on, which ends before `next`. The line is read whole.
+fn read_line<F: ReadAt>(alloc: Global, file: &F, offset: u64, next: u64) -> Result<Front, Fault>
+    requires some { offset < next }
+    ensures line { IfSome (F.bytes file.now) (λ all. next ≤ length all
+        → IsLineRead (F.fails file.now) (spec.first_line (bytes_between offset next all)) next result) }
+    ensures onward { IfOk result (IsOnward offset next) }
+{
+    let bytes = read_exact(alloc, file, 0, offset, (next - offset) as usize)?;
+    match read_key(&mut LineReader::new(alloc), first_line(&bytes)) {
+        Ok(Some(key)) => Ok(Front::Keyed(key)),
+        Ok(None) => Ok(Front::Skipped(next)),
+        Err(reason) => Err(Fault::at(0, offset, Reason::from(reason))),
+    }
+}
+
+/// The first line of `bytes`, without its end.
+fn first_line(bytes: &[u8]) -> &[u8]
+    ensures { result.now ≡ spec.first_line bytes.now }
+{
+    match find_line_end(bytes) {
+        Some(size) => &bytes[..size],
+        None => bytes,
     }
 }
 

@@ -22,10 +22,8 @@ pub(crate) struct ReadBuffer {
     buffer: Vec<u8>,
     from: usize,
     end: usize,
-    /// The number of bytes that the next read asks for.
+    /// The number of bytes that a read asks for.
     chunk: usize,
-    /// The number of bytes that each read after the next one asks for.
-    later_chunk: usize,
 }
 
 impl Model for ReadBuffer {
@@ -35,8 +33,7 @@ impl Model for ReadBuffer {
 
     ghost view = { λ h. take (h.end - h.from) (drop h.from h.buffer.items) };
 
-    ghost invariant = { λ h. (h.from ≤ h.end) × (h.end ≤ length h.buffer.items) × (0 < h.chunk) × (h.chunk ≤ 65536) ×
-        (0 < h.later_chunk) × (h.later_chunk ≤ 65536) };
+    ghost invariant = { λ h. (h.from ≤ h.end) × (h.end ≤ length h.buffer.items) × (0 < h.chunk) × (h.chunk ≤ 65536) };
 }
 
 impl ReadBuffer {
@@ -49,20 +46,11 @@ impl ReadBuffer {
             from: 0,
             end: 0,
             chunk: MAX_CHUNK,
-            later_chunk: MAX_CHUNK,
         }
     }
 
     /// Makes each later read ask for `chunk` bytes, within 1 to 65536.
     pub(crate) fn set_chunk_size(&mut self, chunk: usize)
-        ensures { self.new ≡ self.old }
-    {
-        self.chunk = chunk.clamp(1, MAX_CHUNK);
-        self.later_chunk = self.chunk;
-    }
-
-    /// Makes only the next read ask for `chunk` bytes, within 1 to 65536.
-    pub(crate) fn set_first_chunk_size(&mut self, chunk: usize)
         ensures { self.new ≡ self.old }
     {
         self.chunk = chunk.clamp(1, MAX_CHUNK);
@@ -144,7 +132,6 @@ impl ReadBuffer {
         match read_at(reader, &mut self.buffer, self.end, most.min(self.chunk)) {
             Ok(count) => {
                 self.end += count;
-                self.chunk = self.later_chunk;
                 Ok(count)
             }
             Err(_) => Err(Reason::ReadFault),

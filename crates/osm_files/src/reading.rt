@@ -9,7 +9,6 @@ ghost use Rattle.std.specs.Prelude.{◌≡◌, ◌+◌, ◌<◌, ◌≤◌, ◌^
 ghost use Rattle.std.specs.Prelude.{length, drop, take, option_map};
 ghost use Rattle.std.specs.Prelude.{is_err, IfOk, IfErr, OnOk, OnErr, IsSome, if◌then◌else◌};
 ghost use Rattle.osm_files.specs.EndRule.{new_test, lacks_end};
-ghost use Rattle.osm_files.specs.declared.end_rule.EndRule.TheVariants as rule;
 ghost use Rattle.osm_files.specs.Fault.{failed_fault, fault_at};
 ghost use Rattle.osm_files.specs.Units as spec;
 ghost use Rattle.osm_files.specs.Reading.{Finds, FindsLast};
@@ -28,7 +27,6 @@ use crate::placed::Placed;
 use crate::read_buffer::ReadBuffer;
 use crate::reason::Reason;
 use crate::unit::{FileState, ReadUnit};
-use opl_line::LineReader;
 use osm_model::Version;
 use std::alloc::Global;
 use std::marker::Model;
@@ -100,38 +98,11 @@ impl<R: Input> Reading<R> {
         }
     }
 
-    /// A reading of the lines of an OPL file from `offset` on. `reader` gives the bytes from there.
-    pub(crate) fn of_lines(alloc: Global, input: usize, offset: u64, reader: R) -> Reading<R>
-        requires { offset < 2 ^ 62 }
-        ensures { result ≡ record {
-          input = input;
-          offset = offset;
-          held = [];
-          rest = reader;
-          stage = Some spec.InOpl;
-          end = new_test rule.Any;
-          ended = false;
-          failed = false;
-        } }
-    {
-        let mut lines = Reading::new(alloc, input, EndRule::Any, reader);
-        lines.offset = offset;
-        lines.stage = Some(FileState::Lines(LineReader::new(alloc)));
-        lines
-    }
-
     /// Asks for about `chunk` bytes at a time from now on.
     pub(crate) fn set_chunk_size(&mut self, chunk: usize)
         ensures { self.new ≡ self.old }
     {
         self.read_buffer.set_chunk_size(chunk);
-    }
-
-    /// Asks for about `chunk` bytes in the next read, and after it for as many as before this call.
-    pub(crate) fn set_first_chunk_size(&mut self, chunk: usize)
-        ensures { self.new ≡ self.old }
-    {
-        self.read_buffer.set_first_chunk_size(chunk);
     }
 
     /// Reads more bytes, or detects that there are no more.

@@ -1,5 +1,5 @@
 //! Lines from an offset on.
-use super::{FAR, first_version, line_start};
+use super::{FAR, first_key, line_start};
 use crate::input::Broken;
 use crate::read_at::ReadAt;
 use osm_model::Memory;
@@ -46,9 +46,9 @@ fn line_text<F: ReadAt>(alloc: Global, file: &F, offset: u64, end: u64) -> Strin
         }
     };
     let _ = write!(text, "{start}: ");
-    match first_version(alloc, file, start, end) {
-        Ok(Some(version)) => {
-            let _ = write!(text, "{}", version.id());
+    match first_key(alloc, file, start, end) {
+        Ok(Some(key)) => {
+            let _ = write!(text, "{}", key.object.id);
         }
         Ok(None) => {
             let _ = text.push_str("none");
@@ -85,8 +85,9 @@ fn lines_from_an_offset(rt: HostRuntime) {
 fn lines_of_a_failing_file(rt: HostRuntime) {
     for (broken, offset, end, text) in [
         (9, 0, 40, "0: 1"),
-        (8, 0, 40, "0: file 0, byte 8: ReadFault"),
-        (25, 1, 40, "9: file 0, byte 25: ReadFault"),
+        (8, 0, 40, "0: 1"),
+        (25, 1, 40, "9: 2"),
+        (22, 1, 40, "9: file 0, byte 22: ReadFault"),
         (25, 1, 19, "9: none"),
         (28, 9, 40, "9: 2"),
         (5, 1, 40, "file 0, byte 5: ReadFault"),
@@ -112,6 +113,34 @@ fn a_line_may_be_longer_than_a_read(rt: HostRuntime) -> Result<(), Memory> {
         (1, 4_098, "4098: none"),
     ] {
         assert_eq!(rt; line_text(rt.alloc(), &bytes, offset, end).as_str(), text);
+    }
+    Ok(())
+}
+
+/// The text of a search in a line of about 90 KB that begins with `front`, after a comment.
+fn long_line_text(alloc: Global, front: &[u8]) -> Result<String, Memory> {
+    let mut file = Vec::new(alloc);
+    file.extend_from_slice(b"# comment\n")?;
+    file.extend_from_slice(front)?;
+    for _ in 0..30_000 {
+        file.extend_from_slice(b"n1,")?;
+    }
+    file.extend_from_slice(b"n1\nw8 v1 dD\n")?;
+    Ok(line_text(alloc, &file.as_slice(), 0, file.len() as u64))
+}
+
+#[test]
+fn long_lines_have_keys(rt: HostRuntime) -> Result<(), Memory> {
+    for (front, text) in [
+        (b"w7 v1 N".as_slice(), "0: 7"),
+        (b"w7 v1  N", "0: 7"),
+        (b"w7 dV v1 N", "0: 7"),
+        (b"w7 v1,N", "0: file 0, byte 10: BadNumber"),
+        (b"w7 dV N", "0: file 0, byte 10: NoVersion"),
+        (b"x7 v1 N", "0: file 0, byte 10: UnknownKind"),
+        (b"##", "0: 8"),
+    ] {
+        assert_eq!(rt; long_line_text(rt.alloc(), front)?.as_str(), text);
     }
     Ok(())
 }

@@ -1,9 +1,9 @@
 -- The lines of a file from an offset on, if those from a later offset on are known.
 use Rattle.std.proofs.Common.{◌≡◌, inl, inr, ⊎_elim, ℕ, ◌≤◌, ◌<◌, List, [], ◌∷◌, ◌++◌, length, drop, sym, ap, ◌∙◌, subst, arith}
 use Rattle.std.proofs.Common.{Option, Some, None, Ok, Err, IfSome}
+use Rattle.osm_model.specs.declared.object.Key.{Key}
 use Rattle.osm_model.specs.declared.object.Object.{Object}
 use Rattle.osm_model.specs.Data.{VersionData}
-use Rattle.osm_model.specs.Order.{object_of}
 use Rattle.osm_files.specs.declared.fault.Fault.{Fault}
 use Rattle.osm_files.specs.Lines.{lines_from, line_start_from, bytes_between, IsLineStart, IsFirstOf, IsFirstBetween}
 use Rattle.osm_files.specs.Opl.{OplFile}
@@ -29,12 +29,12 @@ parts_between all offset later low within versions file =
     (subst (λ (b : List ℕ). OplFile b versions) (sym (start_lines offset all)) file))
 
 -- ---- the object of the first version
--- the object of a version, or another one if there is no version
-abbrev pub object_or : Option VersionData → Option Object → Option Object
+-- the object of a key, or another one if there is no key
+abbrev pub object_or : Option Key → Option Object → Option Object
 object_or None object = object
-object_or (Some v) object = Some (object_of v)
+object_or (Some key) object = Some key.object
 
-object_joined : (earlier later : List VersionData) (first : Option VersionData) (object : Option Object) → IsFirstOf first earlier →
+object_joined : (earlier later : List VersionData) (first : Option Key) (object : Option Object) → IsFirstOf first earlier →
     object ≡ object_of_first later → object_or first object ≡ object_of_first (earlier ++ later)
 object_joined [] later first object none is = ap (λ f. object_or f object) none ∙ is
 object_joined (v ∷ earlier) later first object first_is is = ap (λ f. object_or f object) first_is
@@ -68,7 +68,7 @@ same_lines (Some all) offset start later low h is late =
     }
 
 -- If lines begin before the later offset, their first version is the first one; if they hold none, it is that of the later lines.
-pub more_lines : (Fails : Type 0) (bytes : Option (List ℕ)) (offset start : ℕ) (later : LinesFrom) (first : Option VersionData) →
+pub more_lines : (Fails : Type 0) (bytes : Option (List ℕ)) (offset start : ℕ) (later : LinesFrom) (first : Option Key) →
     offset ≤ later.offset → AreLinesOf bytes later → IsLineStart bytes offset later.offset start → start < later.offset →
     IsFirstBetween Fails bytes start later.start (Ok first) →
     AreLinesOf bytes (record { offset = offset; start = start; object = object_or first later.object })

@@ -13,15 +13,16 @@ use std::alloc::Global;
 /// The offset at which a sorted OPL file is cut at `bound`. The lines before it have the versions whose objects are
 /// below `bound`, and the lines from it on have the others. It is 0 or the offset after a line: the first such offset
 /// from which on the first version isn't below `bound`. So comments between two versions come after the cut. The search
-/// halves a range of offsets: it reads about 30 lines of a file of 1 GB. It reads a long stretch of comments at most
-/// twice. So it does a long line, unless comments precede it.
+/// halves a range of offsets. Of a file of 1 GB it reads about 30 lines, and of lines of the usual form only the keys.
+/// It reads a long stretch of comments at most twice. So it does a long line, unless the line has another form and
+/// comments precede it.
 ///
 /// For a file that isn't sorted, it is some offset at which a line begins, or the file's length.
 ///
 /// # Errors
 ///
 /// The reason why a line that the search reads can't be read, at the line's offset. `ReadFault` if the file can't be
-/// read; `TooLong`; or `Memory`. The fault has the number 0.
+/// read; or `Memory`. The fault has the number 0.
 pub fn cut_offset<F: ReadAt>(alloc: Global, file: &F, bound: Object) -> Result<u64, Fault>
     ensures cut { IfOk result (IsCutOf (F.bytes file.now) bound) }
     ensures begins { IfOk result (BeginsLinesOf (F.bytes file.now)) }

@@ -6,7 +6,7 @@ ghost use Rattle.std.specs.Prelude.{◌≡◌, ◌≤◌, None, IfOk, IfErr};
 ghost use Rattle.osm_mirror.specs.run.CutOffset.{IsCutRefusal};
 ghost use Rattle.osm_mirror.specs.run.LinesFrom.{AreLinesOf};
 
-use osm_files::{Fault, ReadAt, first_version, line_start};
+use osm_files::{Fault, ReadAt, first_key, line_start};
 use osm_model::Object;
 use std::alloc::Global;
 
@@ -42,7 +42,7 @@ impl LinesFrom {
 /// # Errors
 ///
 /// The reason why a line that the search reads can't be read, at the line's offset. `ReadFault` if the file can't be
-/// read; `TooLong`; or `Memory`. The fault has the number 0.
+/// read; or `Memory`. The fault has the number 0.
 pub(crate) fn lines_before<F: ReadAt>(
     alloc: Global,
     file: &F,
@@ -63,8 +63,8 @@ pub(crate) fn lines_before<F: ReadAt>(
             object: later.object,
         });
     }
-    let object = match first_version(alloc, file, start, later.start)? {
-        Some(version) => Some(Object::of(&version)),
+    let object = match first_key(alloc, file, start, later.start)? {
+        Some(key) => Some(key.object),
         None => later.object,
     };
     Ok(LinesFrom {

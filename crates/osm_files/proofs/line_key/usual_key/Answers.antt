@@ -1,15 +1,8 @@
-use Rattle.std.proofs.Common.{◌≡◌, true, to_z, of_z, w64, rules}
-use Rattle.osm_model.specs.declared.object.Key.{Key}
-use Rattle.osm_files.specs.LineKey.{is_field_end}
+use Rattle.std.proofs.Common.{sym, ◌∙◌}
 use Rattle.osm_files.proofs.LineKeyLaws.{usual_line}
 use Rattle.osm_files.proofs.line_key.usual_key.Goals as goal
 
-pub returns : goal.returns
-returns c =
-    let same : to_z w64 (of_z w64 c.in_ok-id.id) ≡ c.in_ok-id.id = search rules in
-    let ends : is_field_end c.in_ok-number.text.now ≡ true = search rules in
-    let key : Key = record { object = record { kind = c.in_ok-kind.kind; id = c.in_ok-id.id }; number = c.in_ok-number.number } in
-    rw same
-    (usual_line c.args.line.now key c.in_ok-kind.text.now c.in_ok-id.text.now c.in_ok-strip_byte.field-0.now c.in_ok-text.text.now
-    c.in_ok-number.text.now c.in_ok-kind.ensures c.in_ok-id.ensures c.in_ok-strip_byte.ensures c.in_ok-text.ensures
-    c.in_ok-number.ensures.digits ends)
+pub returns-then-is_field_end : goal.returns-then-is_field_end
+returns-then-is_field_end c =
+    usual_line c.in_ok-key.key c.args.line.now c.in_ok-key.rest.now c.in_ok-key.ensures
+    (sym c.is_field_end.ensures ∙ c.if-is_field_end.true)

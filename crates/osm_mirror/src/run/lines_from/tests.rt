@@ -40,10 +40,18 @@ fn mark(file: &Counted, most: u64) -> &'static str {
     }
 }
 
-/// A node, `front`, then `middle` written 30,000 times, and then a line's end and a way.
-fn long_file(alloc: Global, front: &[u8], middle: &[u8]) -> Result<Vec<u8>, Memory> {
+/// A node, `comments` lines of comments, `front`, then `middle` written 30,000 times, and then a line's end and a way.
+fn long_file(
+    alloc: Global,
+    comments: usize,
+    front: &[u8],
+    middle: &[u8],
+) -> Result<Vec<u8>, Memory> {
     let mut bytes = Vec::new(alloc);
     bytes.extend_from_slice(b"n1 v1 dD\n")?;
+    for _ in 0..comments {
+        bytes.extend_from_slice(b"# comment\n")?;
+    }
     bytes.extend_from_slice(front)?;
     for _ in 0..30_000 {
         bytes.extend_from_slice(middle)?;
@@ -88,12 +96,18 @@ fn searches(alloc: Global, bytes: Vec<u8>) -> String {
 #[test]
 fn stretches_are_read_at_most_twice(rt: HostRuntime) -> Result<(), Memory> {
     let alloc = rt.alloc();
-    for (front, middle, text) in [
-        (b"".as_slice(), b"# comment\n".as_slice(), "65 9 9 300019 "),
-        (b"#", b"one line..", "65 9 9 300020 "),
-        (b"w1 v1 dV Nn1", b",n1,n1,n12", "65 9 300022 300031 "),
+    for (comments, front, middle, text) in [
+        (30_000, b"".as_slice(), b"".as_slice(), "65 9 9 300019 "),
+        (0, b"#", b"one line..", "65 9 9 300020 "),
+        (0, b"w1 v1 dV Nn1", b",n1,n1,n12", "65 9 300022 300031 "),
+        (
+            30_000,
+            b"w1 v1 dV Nn1",
+            b",n1,n1,n12",
+            "65 9 600022 600031 ",
+        ),
     ] {
-        let bytes = long_file(alloc, front, middle)?;
+        let bytes = long_file(alloc, comments, front, middle)?;
         assert_eq!(rt; searches(alloc, bytes).as_str(), text);
     }
     let mut comments = Vec::new(alloc);

@@ -13,23 +13,23 @@ returns-then-start-later-clause-lines g c =
 pub returns-in-Some-clause-lines : goal.returns-in-Some-clause-lines
 returns-in-Some-clause-lines g c =
     let bytes = g.F.ReadAt.bytes c.args.file.now in
-    let object : object_or c.in_ok-version.field-0 c.args.later.object ≡ Some c.of.result =
-    ap (λ v. object_or v c.args.later.object) c.in-Some.is ∙ ap (λ (o : Object). Some o) (sym c.of.ensures) in
+    let object : object_or c.in_ok-key.field-0 c.args.later.object ≡ Some c.in-Some.key.object =
+    ap (λ k. object_or k c.args.later.object) c.in-Some.is in
     subst (λ (o : Option Object). AreLinesOf bytes (record { offset = c.args.offset; start = c.in_ok-start.start; object = o })) object
-    (more_lines (g.F.ReadAt.fails c.args.file.now) bytes c.args.offset c.in_ok-start.start c.args.later c.in_ok-version.field-0
-    c.requires.before c.requires.later c.in_ok-start.ensures.start (omega (arith, c.if-start-later.false)) c.in_ok-version.ensures.first)
+    (more_lines (g.F.ReadAt.fails c.args.file.now) bytes c.args.offset c.in_ok-start.start c.args.later c.in_ok-key.field-0
+    c.requires.before c.requires.later c.in_ok-start.ensures.start (omega (arith, c.if-start-later.false)) c.in_ok-key.ensures.first)
 
 pub returns-in-None-clause-lines : goal.returns-in-None-clause-lines
 returns-in-None-clause-lines g c =
     let bytes = g.F.ReadAt.bytes c.args.file.now in
     subst (λ (o : Option Object). AreLinesOf bytes (record { offset = c.args.offset; start = c.in_ok-start.start; object = o }))
     (ap (λ v. object_or v c.args.later.object) c.in-None.is)
-    (more_lines (g.F.ReadAt.fails c.args.file.now) bytes c.args.offset c.in_ok-start.start c.args.later c.in_ok-version.field-0
-    c.requires.before c.requires.later c.in_ok-start.ensures.start (omega (arith, c.if-start-later.false)) c.in_ok-version.ensures.first)
+    (more_lines (g.F.ReadAt.fails c.args.file.now) bytes c.args.offset c.in_ok-start.start c.args.later c.in_ok-key.field-0
+    c.requires.before c.requires.later c.in_ok-start.ensures.start (omega (arith, c.if-start-later.false)) c.in_ok-key.ensures.first)
 
-pub returns-in_err-version-clause-refused : goal.returns-in_err-version-clause-refused
-returns-in_err-version-clause-refused g c =
-    let p = err_from_is_err_and c.from_residual-in_err-version.result c.from_residual-in_err-version.ensures.1 in
+pub returns-in_err-key-clause-refused : goal.returns-in_err-key-clause-refused
+returns-in_err-key-clause-refused g c =
+    let p = err_from_is_err_and c.from_residual-in_err-key.result c.from_residual-in_err-key.ensures.1 in
     rw (p.1, p.2) (lines_refuse (g.F.ReadAt.fails c.args.file.now) (g.F.ReadAt.bytes c.args.file.now) c.args.offset c.in_ok-start.start
     c.args.later _ c.requires.before c.requires.later c.in_ok-start.ensures.start (omega (arith, c.if-start-later.false))
-    c.in_err-version.ensures.first)
+    c.in_err-key.ensures.first)
