@@ -16,9 +16,9 @@ files-preserved g c =
     let size = c.in-Ok.size in
     let more = front_at files c.files.input file (omega (arith, c.files-test.true)) c.index-files-input.is in (
       omega (arith, c.if-size-total.false, c.files.invariant.0),
-      subst (λ fs. IsTotal known fs (c.files.total + c.unwrap_or.result)) (sym more)
-          (total_more known (take c.files.input files) file c.files.total (c.files.total + c.unwrap_or.result) size
-          c.files.invariant.1 c.in-Ok.ensures.size (ap (λ n. c.files.total + n) c.unwrap_or.ensures)),
+      subst (λ fs. IsTotal known fs (c.files.total + c.unwrap_or-size.result)) (sym more)
+          (total_more known (take c.files.input files) file c.files.total (c.files.total + c.unwrap_or-size.result) size
+          c.files.invariant.1 c.in-Ok.ensures.size (ap (λ n. c.files.total + n) c.unwrap_or-size.ensures)),
     )
 
 pub returns-clause-total : goal.returns-clause-total
@@ -43,7 +43,7 @@ returns-then-size-total-clause-refused g c =
     let known : Bor g.row.F.Denot → Option (List ℕ) = λ file. g.F.ReadAt.bytes file.now in
     let files = c.args.files.now in
     let file = c.index-files-input.result in
-    let long = c.unwrap_or.ensures in
+    let long = c.unwrap_or-size.ensures in
     rw c.too_long.ensures (inr (inr (
       refl,
       total_long known files c.files.input c.files.total file c.in-Ok.size (omega (arith, c.files-test.true))
