@@ -7,7 +7,7 @@ use Rattle.std.proofs.lemmas.List.Elements.{All-nil, All-cons, All-head, All-tai
 use Rattle.osm_files.specs.declared.end_rule.EndRule.{EndRule}
 use Rattle.osm_files.specs.declared.fault.Fault.{Fault}
 use Rattle.osm_files.specs.EndRule.{lacks_its_end, rule_of_file}
-use Rattle.osm_files.specs.Fault.{memory_fault}
+use Rattle.osm_files.specs.Fault.{memory_fault, fault_at}
 use Rattle.osm_model.specs.VersionSet.{VersionSet}
 use Rattle.osm_files.specs.declared.output.Output.{Ghosts}
 use Rattle.osm_files.specs.Change.{change_of}
@@ -22,6 +22,7 @@ use Rattle.osm_merge.proofs.UnionLaws.{nothing_appended as at_first}
 use Rattle.osm_mirror.proofs.run_laws.FilesRefusalLaws.{all_at}
 use Rattle.osm_mirror.proofs.run_laws.SpanJobLaws.{nothing_cut}
 use Rattle.osm_mirror.proofs.run_laws.TurnLaws.{no_verdict_by_end}
+use Rattle.osm_mirror.proofs.run_laws.WayLaws.{among}
 
 -- A file that is sound doesn't lack its end.
 pub sound_ends : (known : Option (List ℕ)) (order : Order) (end : EndRule)
@@ -38,10 +39,11 @@ not_cut (Some all) lacks h = sym h
 -- ---- lists of files
 -- The same for the files of a shard.
 pub among_shard : {F : Type 0} (known : F → Option (List ℕ)) (fails : F → Type 0) (end : EndRule) (files : List F) (input : ℕ) (file : F)
-    (fault : Fault) → slice_get files input ≡ Some file → IsRefusedFileBy (fails file) (known file) Sorted end input fault
-    → shard.AreRefused known fails (shard.IsFaultByRule end) files fault
-among_shard known fails end files input file fault is (inl memory) = inl memory
-among_shard known fails end files input file fault is (inr (at, found)) = inr (inl (file, ap (slice_get files) at ∙ is, found))
+    (fault : Fault) → slice_get files input ≡ Some file → IsRefusedFileBy (fails file) (known file) Sorted end fault
+    → shard.AreRefused known fails (shard.IsFaultByRule end) files (fault_at input fault.place fault.reason)
+among_shard {F = F} known fails end files input file fault is refused =
+    ⊎_elim (λ memory. inl memory) (λ found. inr (inl found))
+    (among (λ (f : F). shard.IsFaultByRule end (fails f) (known f)) files input file fault is refused)
 
 -- ---- the files of a shard
 module _ {F : Type 0} (known : F → Option (List ℕ)) (fails : F → Type 0) (end : EndRule) (files : List F) (fault : Fault)

@@ -10,11 +10,11 @@ use Rattle.osm_files.specs.declared.end_rule.EndRule.{EndRule}
 use Rattle.osm_files.specs.declared.fault.Fault.{Fault}
 use Rattle.osm_files.specs.declared.output.Output.{Ghosts}
 use Rattle.osm_files.specs.declared.reason.Reason.{Reason}
-use Rattle.osm_files.specs.declared.reason.Reason.TheVariants.{Memory, ReadFault, NoEnd}
+use Rattle.osm_files.specs.declared.reason.Reason.TheVariants.{ReadFault, NoEnd}
 use Rattle.osm_files.specs.Change.{change_of}
 use Rattle.osm_files.specs.EndRule.{by_rule, cut_if, lacks_its_end, rule_of_file, ends_well}
 use Rattle.osm_files.specs.Extent.{RunCanGive}
-use Rattle.osm_files.specs.Fault.{memory_fault, too_long_fault, write_fault, fault_at}
+use Rattle.osm_files.specs.Fault.{memory_fault, too_long_fault, write_fault}
 use Rattle.osm_files.specs.FileRuns.{IsAccepted}
 use Rattle.osm_files.specs.Input.{InputRest, failed_after}
 use Rattle.osm_files.specs.Sink.{CutShort}
@@ -22,7 +22,7 @@ use Rattle.osm_files.specs.SortedRun.{run_bytes, whole_run}
 use Rattle.osm_files.specs.SourceLaws.{input_verdict}
 use Rattle.osm_files.specs.Spell.{spell}
 use Rattle.osm_files.specs.Stream.{Verdict, verdict_at}
-use Rattle.osm_files.specs.Verdict.{verdict}
+use Rattle.osm_files.specs.Verdict.{verdict, verdict_sorted}
 use Rattle.osm_files.proofs.CutLaws.{CutFault, cut_refusal, cut_sorted, cut_units}
 use Rattle.osm_files.proofs.EndedLaws.{ends_by_rule}
 use Rattle.osm_files.proofs.FailureLaws.{failure_stays}
@@ -42,22 +42,23 @@ use Rattle.osm_mirror.specs.run.FilesRefusal.{IsFaultIfSound, IsReadAs, StopsIn,
 use Rattle.osm_mirror.specs.run.FilesRefusal.{IsFaultAmongByRule, AreSound, IsCutIfGood, IsLong, IsWriteRefusal, NothingStands, FailsLater}
 use Rattle.osm_mirror.specs.run.FilesRefusal.{RefusesAnyOrder, RefusesFilesJob}
 use Rattle.osm_mirror.specs.run.Job.{union_of}
-use Rattle.osm_mirror.proofs.run_laws.FilesRefusalLaws.{at_is, all_at, sorted_fault}
+use Rattle.osm_mirror.proofs.run_laws.FilesRefusalLaws.{all_at}
 use Rattle.osm_mirror.proofs.run_laws.TurnLaws.{no_verdict_by_end}
 
 -- ---- one file
--- the fault of a cut file as that of the file of a number
-of_cut : (Fails : Type 0) (all : List ℕ) (v : Option Verdict) (first r : Fault) → length all < 2 ^ 62 → r.place ≡ first.place
-    → r.reason ≡ first.reason → (first.reason ≡ Memory → ⊥) → CutFault Fails 0 all v first
-    → IsFailedRead Fails (Some all) r ⊎ IsVerdict v all r
-of_cut Fails all v first r short there same other (inl (inl memory)) = absurd (other (ap (λ f. f.reason) memory))
-of_cut Fails all v first r short there same other (inl (inr (fails, read, within))) =
-    inl (fails, same ∙ read, omega (arith, there, within))
-of_cut Fails all v first r short there same other (inr (inl long)) = absurd (omega (arith, short, long))
-of_cut Fails all v first r short there same other (inr (inr (w, e, is))) =
-    let at : w ≡ verdict_at r.place r.reason =
-    (λ i. verdict_at ((ap (λ f. f.place) (sym is) ∙ sym there) i) ((ap (λ f. f.reason) (sym is) ∙ sym same) i)) in
-    inr (inl (e ∙ ap Some at))
+-- the fault of a file, if its bytes have this verdict
+abbrev Refused : (Fails : Type 0) → List ℕ → Option Verdict → Fault → Type 0
+Refused Fails all v first = (first ≡ memory_fault) ⊎ (IsFailedRead Fails (Some all) first ⊎ IsVerdict v all first)
+
+of_cut : (Fails : Type 0) (all : List ℕ) (v : Option Verdict) (first : Fault) → length all < 2 ^ 62 → CutFault Fails 0 all v first
+    → Refused Fails all v first
+of_cut Fails all v first short (inl (inl memory)) = inl memory
+of_cut Fails all v first short (inl (inr failed)) = inr (inl failed)
+of_cut Fails all v first short (inr (inl long)) = absurd (omega (arith, short, long))
+of_cut Fails all v first short (inr (inr (w, e, is))) =
+    let at : w ≡ verdict_at first.place first.reason =
+    (λ i. verdict_at (ap (λ f. f.place) (sym is) i) (ap (λ f. f.reason) (sym is) i)) in
+    inr (inr (inl (e ∙ ap Some at)))
 
 module _ (Fails : Type 0) (all : List ℕ) (size : ℕ) (end : EndRule) (small : size < 2 ^ 62) (sized : length all ≡ size) where
   whole : run_bytes whole_run all ≡ all
@@ -77,62 +78,53 @@ module _ (Fails : Type 0) (all : List ℕ) (size : ℕ) (end : EndRule) (small :
       let is : bytes ≡ all = run_given Fails all whole_run size c sized gives refl ∙ whole in
       ap (λ t. cut_if t c) (ap (lacks_its_end (rule_of_file end)) is ∙ ends)
 
-  module _ (c : InputRest) (gives : Gives c) (first r : Fault) (there : r.place ≡ first.place) (same : r.reason ≡ first.reason)
-      (other : first.reason ≡ Memory → ⊥) where
+  module _ (c : InputRest) (gives : Gives c) (first : Fault) where
     short : length all < 2 ^ 62
     short = omega (arith, small, sized)
 
     -- a file whose end is missing
     cut_in : (order : Order) → lacks_its_end (rule_of_file end) all ≡ true → StopsIn order (by_rule (rule_of_file end) c) first
-        → IsFailedRead Fails (Some all) r ⊎ IsVerdict (verdict_by_end true order all) all r
+        → Refused Fails all (verdict_by_end true order all) first
     cut_in Sorted lacks stops =
-        of_cut Fails all (input_verdict (failed_after NoEnd all)) first r short there same other
+        of_cut Fails all (input_verdict (failed_after NoEnd all)) first short
         (subst (λ xs. CutFault Fails 0 xs (input_verdict (failed_after NoEnd xs)) first) whole
         (cut_sorted Fails all whole_run size 0 first sized (rule_of_file end)
         (ap (lacks_its_end (rule_of_file end)) whole ∙ lacks) c gives stops))
     cut_in Any lacks stops =
-        of_cut Fails all (cut_refusal all) first r short there same other
+        of_cut Fails all (cut_refusal all) first short
         (subst (λ xs. CutFault Fails 0 xs (cut_refusal xs) first) whole
         (cut_units Fails all whole_run size 0 first sized (rule_of_file end)
         (ap (lacks_its_end (rule_of_file end)) whole ∙ lacks) c gives stops))
 
-    -- a file of any order whose end isn't missing
-    named_in : Named Fails 0 all first → IsFailedRead Fails (Some all) r ⊎ IsVerdict (verdict all) all r
-    named_in named = of_cut Fails all (verdict all) first r short there same other named
-
+    -- a file whose end isn't missing
     whole_in : (order : Order) → lacks_its_end (rule_of_file end) all ≡ false → StopsIn order c first
-        → IsFailedRead Fails (Some all) r ⊎ IsVerdict (verdict_by_end false order all) all r
+        → Refused Fails all (verdict_by_end false order all) first
     whole_in Sorted ends stops =
-        sorted_fault Fails all first r same other 0 there
-        (subst (λ xs. Refuses Fails 0 xs first) whole (run_refuses Fails all whole_run size 0 first sized (c, gives, stops)))
-    whole_in Any ends (inl memory) = absurd (other (ap (λ f. f.reason) memory))
+        of_cut Fails all (verdict_sorted all) first short
+        (⊎_elim (λ failed. inl failed) (λ found. inr (inr found))
+        (subst (λ xs. Refuses Fails 0 xs first) whole (run_refuses Fails all whole_run size 0 first sized (c, gives, stops))))
+    whole_in Any ends (inl memory) = inl memory
     whole_in Any ends (inr e) =
-        named_in (subst (λ xs. Named Fails 0 xs first) whole (units_named Fails all whole_run size 0 first c sized gives e))
+        of_cut Fails all (verdict all) first short
+        (subst (λ xs. Named Fails 0 xs first) whole (units_named Fails all whole_run size 0 first c sized gives e))
 
-    fault_in : (order : Order) → StopsIn order (by_rule (rule_of_file end) c) first → IsFaultOfFile Fails (Some all) order end r
+    fault_in : (order : Order) → StopsIn order (by_rule (rule_of_file end) c) first
+        → Refused Fails all (verdict_by_end (lacks_its_end (rule_of_file end) all) order all) first
     fault_in order stops =
         elim (lacks_its_end (rule_of_file end) all) as (λ t. lacks_its_end (rule_of_file end) all ≡ t
-        → IsFailedRead Fails (Some all) r ⊎ IsVerdict (verdict_by_end t order all) all r) [
+        → Refused Fails all (verdict_by_end t order all) first) [
           | true ↦ λ lacks. cut_in order lacks stops
           | false ↦ λ ends. whole_in order ends
               (subst (λ (d : InputRest). StopsIn order d first) (same_by_rule c.bytes c.failure gives ends) stops)
         ] refl
 
 -- A read that stops names the first fault of the file.
-pub read_named : (Fails : Type 0) (known : Option (List ℕ)) (size : ℕ) (c : InputRest) (order : Order) (end : EndRule) (input : ℕ)
-    (first : Fault) → size < 2 ^ 62 → IfSome known (λ all. length all ≡ size) → RunCanGive Fails known whole_run size c
-    → StopsIn order (by_rule (rule_of_file end) c) first
-    → IsRefusedFileBy Fails known order end input (fault_at input first.place first.reason)
-read_named Fails None size c order end input first small sized gives stops =
-    ⊎_elim (λ memory. inl memory) (λ at. inr (at.input_is, inr tt)) (at_is input first.place first.reason)
-read_named Fails (Some all) size c order end input first small sized gives stops =
-    ⊎_elim (λ memory. inl memory)
-    (λ at. inr (
-      at.input_is,
-      fault_in Fails all size end small sized c gives first (fault_at input first.place first.reason) at.place_is at.reason_is at.other
-          order stops,
-    ))
-    (at_is input first.place first.reason)
+pub read_named : (Fails : Type 0) (known : Option (List ℕ)) (size : ℕ) (c : InputRest) (order : Order) (end : EndRule) (first : Fault)
+    → size < 2 ^ 62 → IfSome known (λ all. length all ≡ size) → RunCanGive Fails known whole_run size c
+    → StopsIn order (by_rule (rule_of_file end) c) first → IsRefusedFileBy Fails known order end first
+read_named Fails None size c order end first small sized gives stops = inr (inr tt)
+read_named Fails (Some all) size c order end first small sized gives stops =
+    fault_in Fails all size end small sized c gives first order stops
 
 accepted_known : (order : Order) (bytes all : List ℕ) → bytes ≡ all → IsAcceptedAs order bytes → IsAcceptedAs order all
 accepted_known order bytes all is = subst (IsAcceptedAs order) is

@@ -11,7 +11,7 @@ use Rattle.osm_files.specs.declared.fault.Fault.{Fault}
 use Rattle.osm_files.specs.declared.sorted_run.SortedRun.{SortedRun}
 use Rattle.osm_files.specs.declared.reason.Reason.TheVariants.{ReadFault, TooLong}
 use Rattle.osm_files.specs.EndRule.{lacks_its_end, rule_of_file}
-use Rattle.osm_files.specs.Fault.{memory_fault, IsOfFile}
+use Rattle.osm_files.specs.Fault.{memory_fault, fault_at}
 use Rattle.osm_files.specs.FileRuns.{IfWhole, IsAccepted, IsAcceptedRun, IsSortedRun, IsSortedIfAccepted, IsRefusalOf}
 use Rattle.osm_files.specs.Input.{InputRest}
 use Rattle.osm_files.specs.SortedRun.{IsSplitIntoRuns}
@@ -19,14 +19,15 @@ use Rattle.osm_files.proofs.SplitLaws.{whole_file}
 use Rattle.osm_files.proofs.SinkLaws.{front_at}
 use Rattle.osm_mirror.specs.declared.run.file_way.FileWay.{FileWay}
 use Rattle.osm_mirror.specs.declared.run.files_job.JobFile.{JobFile}
-use Rattle.osm_mirror.specs.declared.run.files_job.JobFile.TheVariants.{File}
+use Rattle.osm_mirror.specs.declared.run.files_job.JobFile.TheVariants.{File, Stream}
 use Rattle.osm_mirror.specs.declared.run.files_job.Order.{Order}
 use Rattle.osm_mirror.specs.declared.run.files_job.Order.TheVariants.{Sorted, Any}
-use Rattle.osm_mirror.specs.run.FilesRefusal.{IsSizeFault, IsVerdict, verdict_by_end, IsFaultOfFile, IsRefusedFile, AreRefused}
-use Rattle.osm_mirror.specs.run.FilesRefusal.{IsRefusedByRule, AreRefusedByRule}
+use Rattle.osm_mirror.specs.run.FilesRefusal.{IsSizeFault, IsVerdict, verdict_by_end, IsFaultOfFile, IsFaultOf, IsRefusedFile, AreRefused}
+use Rattle.osm_mirror.specs.run.FilesRefusal.{IsFaultByRule, IsRefusedByRule, AreRefusedByRule}
 use Rattle.osm_mirror.specs.run.FilesRefusal.{AreSettled}
 use Rattle.osm_mirror.specs.run.FilesJob.{IsWhole, IsReadWhole, IsAsRequired, IsWayOf, FitsBytes, FileFits, FilesFit}
 use Rattle.osm_mirror.proofs.run_laws.FilesJobLaws.{pairwise_length}
+use Rattle.osm_mirror.proofs.run_laws.FilesRefusalLaws.{at_is}
 
 pub get_slice : {X : Type 0} (xs : List X) (k : ℕ) (x : X) → k < length xs → x ≡ get_or xs k x → slice_get xs k ≡ Some x
 get_slice [] k x low is = absurd (omega (arith, low))
@@ -40,22 +41,40 @@ all_more P (y ∷ xs) x all one =
     All-cons P y (xs ++ x ∷ []) (All-head P y xs all) (all_more P xs x (All-tail P y xs all) one)
 
 -- ---- refusals
-module _ {F R : Type 0} (fails : F → Type 0) (bytes : F → Option (List ℕ)) (can : R → InputRest → Type 0) (order : Order) where
-  -- The refusal of one file is one of all files.
+-- A fault of one file, whatever its number, is one of all files if it gets the number of the file.
+pub among : {X : Type 0} (Of : X → Fault → Type 0) (files : List X) (input : ℕ) (file : X) (fault : Fault)
+    → slice_get files input ≡ Some file → (fault ≡ memory_fault) ⊎ Of file (record fault { input = input })
+    → (fault_at input fault.place fault.reason ≡ memory_fault)
+    ⊎ ((one : X) × (slice_get files (fault_at input fault.place fault.reason).input ≡ Some one)
+    × Of one (fault_at input fault.place fault.reason))
+among Of files input file fault at (inl memory) = inl (ap (λ f. fault_at input f.place f.reason) memory)
+among Of files input file fault at (inr found) =
+    ⊎_elim (λ memory. inl memory)
+    (λ is. inr (
+      file,
+      ap (slice_get files) is.input_is ∙ at,
+      subst (Of file) (λ i. record { input = sym is.input_is i; place = sym is.place_is i; reason = sym is.reason_is i }) found,
+    ))
+    (at_is input fault.place fault.reason)
+
+module _ {F R : Type 0} (fails : F → Type 0) (bytes : F → Option (List ℕ)) (can : R → InputRest → Type 0) where
+  -- The refusal of one file of any order, with the file's number, is one of all files.
   pub among_files : (files : List (JobFile F R)) (input : ℕ) (file : JobFile F R) (fault : Fault) → input < length files
-      → file ≡ get_or files input file → IsRefusedFile fails bytes can order input file fault
-      → AreRefused fails bytes can order files fault
-  among_files files input file fault low is (inl memory) = inl memory
-  among_files files input file fault low is (inr (at, found)) =
-      inr (file, subst (λ (k : ℕ). slice_get files k ≡ Some file) (sym at) (get_slice files input file low is), found)
+      → file ≡ get_or files input file → IsRefusedFile fails bytes can Any file fault
+      → AreRefused fails bytes can Any files (fault_at input fault.place fault.reason)
+  among_files files input (File f end) fault low is =
+      among (IsFaultOf fails bytes can Any) files input (File f end) fault (get_slice files input (File f end) low is)
+  among_files files input (Stream r end) fault low is =
+      among (IsFaultOf fails bytes can Any) files input (Stream r end) fault (get_slice files input (Stream r end) low is)
 
   -- The same for files that have to end as their rules say.
-  pub among_by_rule : (files : List (JobFile F R)) (input : ℕ) (file : JobFile F R) (fault : Fault) → input < length files
-      → file ≡ get_or files input file → IsRefusedByRule fails bytes can order input file fault
-      → AreRefusedByRule fails bytes can order files fault
-  among_by_rule files input file fault low is (inl memory) = inl memory
-  among_by_rule files input file fault low is (inr (at, found)) =
-      inr (file, subst (λ (k : ℕ). slice_get files k ≡ Some file) (sym at) (get_slice files input file low is), found)
+  pub among_by_rule : (order : Order) (files : List (JobFile F R)) (input : ℕ) (file : JobFile F R) (fault : Fault)
+      → input < length files → file ≡ get_or files input file → IsRefusedByRule fails bytes can order file fault
+      → AreRefusedByRule fails bytes can order files (fault_at input fault.place fault.reason)
+  among_by_rule order files input (File f end) fault low is =
+      among (IsFaultByRule fails bytes can order) files input (File f end) fault (get_slice files input (File f end) low is)
+  among_by_rule order files input (Stream r end) fault low is =
+      among (IsFaultByRule fails bytes can order) files input (Stream r end) fault (get_slice files input (Stream r end) low is)
 
 at_start : (known : Option (List ℕ)) (fault : Fault) → fault.place ≡ 0 → IfSome known (λ all. fault.place ≤ length all)
 at_start None fault begins = tt
@@ -86,10 +105,10 @@ not_accepted (Some all) fault long = λ accepted. (let short = accepted.1.short 
 
 module _ {F R : Type 0} (fails : F → Type 0) (bytes : F → Option (List ℕ)) (can : R → InputRest → Type 0) where
   -- The same for a file of any order.
-  pub size_refused : (f : Bor F) (end : EndRule) (input : ℕ) (fault : Fault) → fault.input ≡ input
-      → IsSizeFault (fails f.now) (bytes f.now) fault → IsRefusedFile fails bytes can Any input (File f end) fault
-  size_refused f end input fault at (inl (failed, read, begins)) = inr (at, inl (failed, read))
-  size_refused f end input fault at (inr long) = inr (at, inr (not_accepted (bytes f.now) fault long))
+  pub size_refused : (f : Bor F) (end : EndRule) (fault : Fault) → IsSizeFault (fails f.now) (bytes f.now) fault
+      → IsRefusedFile fails bytes can Any (File f end) fault
+  size_refused f end fault (inl (failed, read, begins)) = inr (inl (failed, read))
+  size_refused f end fault (inr long) = inr (inr (not_accepted (bytes f.now) fault long))
 
 -- the refusal of a file in which no runs are found
 module _ (Fails : Type 0) (fault : Fault) where
@@ -102,12 +121,9 @@ module _ (Fails : Type 0) (fault : Fault) where
 
 module _ {F R : Type 0} (fails : F → Type 0) (bytes : F → Option (List ℕ)) (can : R → InputRest → Type 0) where
   -- A file in which no runs are found, since it can't be read, is refused.
-  pub runs_refused : (f : Bor F) (end : EndRule) (input size : ℕ) (fault : Fault) → IfSome (bytes f.now) (λ all. length all ≡ size)
-      → IsOfFile input fault → IfWhole (bytes f.now) size (λ all. IsRefusalOf (fails f.now) all fault)
-      → IsRefusedFile fails bytes can Any input (File f end) fault
-  runs_refused f end input size fault long (inl memory) refused = inl memory
-  runs_refused f end input size fault long (inr at) refused =
-      ⊎_elim (λ memory. inl memory) (λ found. inr (at, found)) (known_runs (fails f.now) fault (bytes f.now) size long refused)
+  pub runs_refused : (f : Bor F) (end : EndRule) (size : ℕ) (fault : Fault) → IfSome (bytes f.now) (λ all. length all ≡ size)
+      → IfWhole (bytes f.now) size (λ all. IsRefusalOf (fails f.now) all fault) → IsRefusedFile fails bytes can Any (File f end) fault
+  runs_refused f end size fault long refused = known_runs (fails f.now) fault (bytes f.now) size long refused
 
 -- ---- ways
 -- a whole file is one run

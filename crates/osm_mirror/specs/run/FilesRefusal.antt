@@ -67,10 +67,9 @@ IsFaultOfFile Fails known order end fault = IsFailedRead Fails known fault
     ⊎ IfSome known (λ all.
     IsVerdict (verdict_by_end (lacks_its_end (rule_of_file end) all) order all) all fault)
 
--- memory ran out, or the fault is one of the file `input`
-abbrev pub IsRefusedFileBy : (Fails : Type 0) → Option (List ℕ) → Order → EndRule → (input : ℕ) → Fault → Type 0
-IsRefusedFileBy Fails known order end input fault =
-    (fault ≡ memory_fault) ⊎ ((fault.input ≡ input) × IsFaultOfFile Fails known order end fault)
+-- memory ran out, or the fault is one of a file, whatever its number
+abbrev pub IsRefusedFileBy : (Fails : Type 0) → Option (List ℕ) → Order → EndRule → Fault → Type 0
+IsRefusedFileBy Fails known order end fault = (fault ≡ memory_fault) ⊎ IsFaultOfFile Fails known order end fault
 
 -- the bytes are accepted in this order
 abbrev pub IsAcceptedAs : Order → List ℕ → Type 0
@@ -84,7 +83,8 @@ IsSoundFile known order end =
 -- The fault of a file in place of another one: memory ran out; or it is the file's; or the file is sound, and the fault
 -- is the same at a place up to the file's size.
 abbrev pub IsFaultIfSound : (Fails : Type 0) → Option (List ℕ) → Order → EndRule → Fault → Fault → Type 0
-IsFaultIfSound Fails known order end fault first = IsRefusedFileBy Fails known order end fault.input first
+IsFaultIfSound Fails known order end fault first =
+    ((first ≡ memory_fault) ⊎ ((first.input ≡ fault.input) × IsFaultOfFile Fails known order end first))
     ⊎ (IsSoundFile known order end × (first.reason ≡ fault.reason) × (first.input ≡ fault.input)
     × IfSome known (λ all. first.place ≤ length all))
 
@@ -181,10 +181,9 @@ module _ {F R : Type 0} (fails : F → Type 0) (bytes : F → Option (List ℕ))
   IsFaultAmongByRule order files fault =
       (file : JobFile F R) × (slice_get files fault.input ≡ Some file) × IsFaultByRule order file fault
 
-  -- memory ran out, or the fault is one of this file, which has this number
-  abbrev pub IsRefusedByRule : Order → ℕ → JobFile F R → Fault → Type 0
-  IsRefusedByRule order input file fault =
-      (fault ≡ memory_fault) ⊎ ((fault.input ≡ input) × IsFaultByRule order file fault)
+  -- memory ran out, or the fault is one of this file, whatever its number
+  abbrev pub IsRefusedByRule : Order → JobFile F R → Fault → Type 0
+  IsRefusedByRule order file fault = (fault ≡ memory_fault) ⊎ IsFaultByRule order file fault
 
   -- memory ran out, or the fault is one of these files, each of which has to end as its rule says
   abbrev pub AreRefusedByRule : Order → List (JobFile F R) → Fault → Type 0
@@ -200,10 +199,9 @@ module _ {F R : Type 0} (fails : F → Type 0) (bytes : F → Option (List ℕ))
   IsFaultAmong order files fault =
       (file : JobFile F R) × (slice_get files fault.input ≡ Some file) × IsFaultOf order file fault
 
-  -- memory ran out, or the fault is one of this file, which has this number
-  abbrev pub IsRefusedFile : Order → ℕ → JobFile F R → Fault → Type 0
-  IsRefusedFile order input file fault =
-      (fault ≡ memory_fault) ⊎ ((fault.input ≡ input) × IsFaultOf order file fault)
+  -- memory ran out, or the fault is one of this file, whatever its number
+  abbrev pub IsRefusedFile : Order → JobFile F R → Fault → Type 0
+  IsRefusedFile order file fault = (fault ≡ memory_fault) ⊎ IsFaultOf order file fault
 
   -- memory ran out, or the fault is one of these files
   abbrev pub AreRefused : Order → List (JobFile F R) → Fault → Type 0

@@ -80,9 +80,8 @@ fn probe_files<F: ReadAt>(alloc: Global, files: &[&F], step: u64) -> Result<Vec<
 {
     let mut found = Vec::new(alloc);
     'files: for (input, file) in files.iter().enumerate() {
-        match probe_file(alloc, *file, step, &mut found) {
-            Ok(()) => (),
-            Err(fault) => return Err(fault.of_input(input)),
+        if let Err(fault) = probe_file(alloc, *file, step, &mut found) {
+            return Err(fault.of_input(input));
         }
     }
     Ok(found)

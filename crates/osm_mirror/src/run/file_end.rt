@@ -30,32 +30,33 @@ pub(crate) fn refuse_cut<'f, F: ReadAt, R: Input>(
 {
     'files: for (input, file) in files.iter().enumerate() {
         if let JobFile::File(file, end) = file {
-            refuse_cut_file(alloc, order, *file, input, *end)?;
+            if let Err(fault) = refuse_cut_file(alloc, order, *file, *end) {
+                return Err(fault.of_input(input));
+            }
         }
     }
     Ok(())
 }
 
-/// Refuses `file`, whose number is `input`, if it has 2^62 bytes or more, or lacks the end that `end` asks for.
+/// Refuses `file` if it has 2^62 bytes or more, or lacks the end that `end` asks for.
 pub(crate) fn refuse_cut_file<F: ReadAt>(
     alloc: Global,
     order: Order,
     file: &F,
-    input: usize,
     end: EndRule,
 ) -> Result<(), Fault>
     ensures ended { OnOk result (IfSome (F.bytes file.now) (λ all.
         lacks_its_end (rule_of_file end) all ≡ false)) }
-    ensures refused { IfErr result (IsRefusedFileBy (F.fails file.now) (F.bytes file.now) order end input) }
+    ensures refused { IfErr result (IsRefusedFileBy (F.fails file.now) (F.bytes file.now) order end) }
 {
-    let size = short_size(file, input)?;
+    let size = short_size(file)?;
     match lacks_end_of_file(file, end) {
         Ok(false) => Ok(()),
         Ok(true) => {
-            check_file(alloc, order, end, file, input)?;
-            Err(Fault::at(input, size, Reason::NoEnd))
+            check_file(alloc, order, end, file)?;
+            Err(Fault::at(0, size, Reason::NoEnd))
         }
-        Err(Broken) => Err(Fault::at(input, 0, Reason::ReadFault)),
+        Err(Broken) => Err(Fault::at(0, 0, Reason::ReadFault)),
     }
 }
 

@@ -66,41 +66,42 @@ pub(crate) fn first_ways<'f, F: ReadAt, R: Input>(
 {
     let mut ways = Vec::new(alloc);
     'files: for (input, file) in files.iter().enumerate() {
-        ways.push(first_way(alloc, order, file, input)?)?;
+        match first_way(alloc, order, file) {
+            Ok(way) => ways.push(way)?,
+            Err(fault) => return Err(fault.of_input(input)),
+        }
     }
     Ok(ways)
 }
 
-/// The way to begin with of `file`, whose number is `input`.
+/// The way to begin with of `file`.
 fn first_way<'f, F: ReadAt, R: Input>(
     alloc: Global,
     order: Order,
     file: &JobFile<'f, F, R>,
-    input: usize,
 ) -> Result<FileWay, Fault>
     ensures fits { IfOk result (FileFits F.bytes order file.now) }
-    ensures refused { IfErr result (IsRefusedByRule F.fails F.bytes R.can_give order input file.now) }
+    ensures refused { IfErr result (IsRefusedByRule F.fails F.bytes R.can_give order file.now) }
 {
     match file {
         JobFile::File(file, _) => {
-            let size = short_size(*file, input)?;
+            let size = short_size(*file)?;
             FileWay::whole(alloc, Order::Sorted, size, order.is_any())
         }
         JobFile::Stream(_, _) => FileWay::whole(alloc, order, 0, false),
     }
 }
 
-/// The size of `file`, whose number is `input`, if the file isn't too long.
-pub(crate) fn short_size<F: ReadAt>(file: &F, input: usize) -> Result<u64, Fault>
+/// The size of `file`, if the file isn't too long.
+pub(crate) fn short_size<F: ReadAt>(file: &F) -> Result<u64, Fault>
     ensures size { IfOk result (λ size. IfSome (F.bytes file.now) (λ all. length all ≡ size)) }
     ensures short { IfOk result (λ size. size < 2 ^ 62) }
-    ensures input { IfErr result (λ fault. fault.input ≡ input) }
     ensures refused { IfErr result (IsSizeFault (F.fails file.now) (F.bytes file.now)) }
 {
     match file.size() {
         Ok(size) if size < LENGTH_LIMIT => Ok(size),
-        Ok(_) => Err(Fault::too_long(input)),
-        Err(_) => Err(Fault::at(input, 0, Reason::ReadFault)),
+        Ok(_) => Err(Fault::too_long(0)),
+        Err(_) => Err(Fault::at(0, 0, Reason::ReadFault)),
     }
 }
 
@@ -201,28 +202,30 @@ fn split_way<'f, F: ReadAt, R: Input>(
         × (ways.new ≡ set ways.old file way)) }
     ensures refused { IfErr result (AreRefused F.fails F.bytes R.can_give Order.Any files.now) }
 {
-    let way = split_file(alloc, &files[file], file, most.saturating_add(1))?;
+    let way = match split_file(alloc, &files[file], most.saturating_add(1)) {
+        Ok(way) => way,
+        Err(fault) => return Err(fault.of_input(file)),
+    };
     let further = way.further_runs();
     ways[file] = way;
     Ok(further)
 }
 
-/// `file`, whose number is `input`, as at most `most` sorted runs, or as one input of any order.
+/// `file` as at most `most` sorted runs, or as one input of any order.
 fn split_file<'f, F: ReadAt, R: Input>(
     alloc: Global,
     file: &JobFile<'f, F, R>,
-    input: usize,
     most: usize,
 ) -> Result<FileWay, Fault>
     ensures fits { IfOk result (FileFits F.bytes Order.Any file.now) }
     ensures settled { IfOk result (λ way. way.may_be_split ≡ false) }
-    ensures refused { IfErr result (IsRefusedFile F.fails F.bytes R.can_give Order.Any input file.now) }
+    ensures refused { IfErr result (IsRefusedFile F.fails F.bytes R.can_give Order.Any file.now) }
 {
     let JobFile::File(file, _) = file else {
         return FileWay::whole(alloc, Order::Any, 0, false);
     };
-    let size = short_size(*file, input)?;
-    match find_runs(alloc, *file, input, size, most)? {
+    let size = short_size(*file)?;
+    match find_runs(alloc, *file, size, most)? {
         Some(runs) => Ok(FileWay {
             order: Order::Sorted,
             runs,

@@ -1,7 +1,7 @@
 //! The first faults of files: a file is read from its start, and no version is kept.
 //!
 //! Why: a run or an extent of a file shows some fault of the file, and not the first one.
-ghost use Rattle.std.specs.Prelude.{◌≡◌, None, IfOk, IfErr, OnOk, IfSome, slice_get};
+ghost use Rattle.std.specs.Prelude.{◌≡◌, None, length, IfOk, IfErr, OnOk, IfSome, slice_get};
 ghost use Rattle.std.specs.List as list;
 ghost use Rattle.osm_files.specs.EndRule.{by_rule};
 ghost use Rattle.osm_files.specs.Fault.{memory_fault};
@@ -15,8 +15,8 @@ use crate::run::files_job::{JobFile, Order};
 use osm_files::{EndRule, Fault, FramedExtent, Input, ReadAt, SortedRun, find_fault};
 use std::alloc::Global;
 
-/// Reads `file`, whose number is `input`, as a file whose versions must have the order `order` and which has to end as
-/// `end` requires.
+/// Reads `file` as a file whose versions must have the order `order` and which has to end as `end` requires. Returns
+/// its size.
 ///
 /// # Errors
 ///
@@ -26,17 +26,15 @@ pub(crate) fn check_file<F: ReadAt>(
     order: Order,
     end: EndRule,
     file: &F,
-    input: usize,
-) -> Result<(), Fault>
+) -> Result<u64, Fault>
     ensures sound { OnOk result (IsSoundFile (F.bytes file.now) order end) }
-    ensures refused { IfErr result (IsRefusedFileBy (F.fails file.now) (F.bytes file.now) order end input) }
+    ensures size { IfOk result (λ size. IfSome (F.bytes file.now) (λ all. length all ≡ size)) }
+    ensures refused { IfErr result (IsRefusedFileBy (F.fails file.now) (F.bytes file.now) order end) }
 {
-    let size = short_size(file, input)?;
+    let size = short_size(file)?;
     let whole = FramedExtent::of_run(file, size, SortedRun::whole());
-    match read_whole(alloc, order, end.of_file(), whole) {
-        Ok(()) => Ok(()),
-        Err(first) => Err(Fault::at(input, first.place, first.reason)),
-    }
+    read_whole(alloc, order, end.of_file(), whole)?;
+    Ok(size)
 }
 
 /// Reads a file to its end, or to its first fault as a file whose versions must have the order `order`.
@@ -69,12 +67,9 @@ pub(crate) fn first_fault_of<F: ReadAt>(
 ) -> Fault
     ensures { IsFaultIfSound (F.fails file.now) (F.bytes file.now) order end fault result }
 {
-    if let Err(first) = check_file(alloc, order, end, file, fault.input) {
-        return first;
-    }
-    match short_size(file, fault.input) {
+    match check_file(alloc, order, end, file) {
         Ok(size) => Fault::at(fault.input, fault.place.min(size), fault.reason),
-        Err(first) => first,
+        Err(first) => first.of_input(fault.input),
     }
 }
 
@@ -92,7 +87,9 @@ pub(crate) fn refuse_faulty<'f, F: ReadAt, R: Input>(
 {
     'files: for (input, file) in files.iter().enumerate() {
         if let JobFile::File(file, end) = file {
-            check_file(alloc, Order::Any, *end, *file, input)?;
+            if let Err(fault) = check_file(alloc, Order::Any, *end, *file) {
+                return Err(fault.of_input(input));
+            }
         }
     }
     Ok(())

@@ -99,7 +99,9 @@ fn refuse_cut_files<F: ReadAt>(alloc: Global, files: &[&F], end: EndRule) -> Res
         (IsFaultByRule end) files.now) }
 {
     'files: for (input, file) in files.iter().enumerate() {
-        refuse_cut_file(alloc, Order::Sorted, *file, input, end)?;
+        if let Err(fault) = refuse_cut_file(alloc, Order::Sorted, *file, end) {
+            return Err(fault.of_input(input));
+        }
     }
     Ok(())
 }

@@ -16,7 +16,7 @@ files-preserved g c =
     let more = front_at files c.files.input file (omega (arith, c.files-test.true)) c.index-files-input.is in
     subst (λ fs. FindsInAll known c.args.step fs c.probe_file.new.found.items) (sym more)
     (all_more known c.args.step (take c.files.input files) file c.files.found.items c.probe_file.new.found.items c.files.invariant
-    c.in-Ok.ensures.found)
+    c.in_default.ensures.found)
 
 pub returns-clause-found : goal.returns-clause-found
 returns-clause-found g c =

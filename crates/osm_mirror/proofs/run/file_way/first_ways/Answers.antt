@@ -1,5 +1,4 @@
 use Rattle.std.proofs.Common.{◌≡◌, ◌+◌, ◌∷◌, [], ◌++◌, take, arith, sym, subst}
-use Rattle.std.proofs.lemmas.Result.{err_from_is_err_and}
 use Rattle.osm_model.proofs.PairwiseLaws.{pairwise_push}
 use Rattle.osm_files.proofs.SinkLaws.{front_at}
 use Rattle.osm_mirror.specs.run.FilesJob.{FileFits, FilesFit}
@@ -13,15 +12,14 @@ files-preserved g c =
     let file = c.index-files-input.result in
     let more : take (c.files.input + 1) files ≡ take c.files.input files ++ file ∷ [] =
     front_at files c.files.input file (omega (arith, c.files-test.true)) c.index-files-input.is in
-    let pushed = pairwise_push (FileFits bytes c.args.order) (take c.files.input files) c.files.ways.items file c.in_ok-first_way.field-0
-    c.files.invariant c.in_ok-first_way.ensures.fits in
+    let pushed = pairwise_push (FileFits bytes c.args.order) (take c.files.input files) c.files.ways.items file c.in-Ok.way
+    c.files.invariant c.in-Ok.ensures.fits in
     subst (λ fs. FilesFit bytes c.args.order fs c.push.new.self.items) (sym more)
-    (subst (λ ws. FilesFit bytes c.args.order (take c.files.input files ++ file ∷ []) ws) (sym c.in_ok-push.ensures.items) pushed)
+    (subst (λ ws. FilesFit bytes c.args.order (take c.files.input files ++ file ∷ []) ws) (sym c.in_ok-push-in-Ok.ensures.items) pushed)
 
-pub returns-in_err-first_way-clause-refused : goal.returns-in_err-first_way-clause-refused
-returns-in_err-first_way-clause-refused g c =
-    let p = err_from_is_err_and c.from_residual.result c.from_residual.ensures.1 in
-    rw (p.1, p.2)
+pub returns-in-Err-clause-refused : goal.returns-in-Err-clause-refused
+returns-in-Err-clause-refused g c =
+    rw c.of_input.ensures
     (among_by_rule g.F.ReadAt.fails g.F.ReadAt.bytes g.R.Input.can_give c.args.order c.args.files.now c.files.input
-    c.index-files-input.result c.in_err-first_way.field-0.0 (omega (arith, c.files-test.true)) c.index-files-input.is
-    c.in_err-first_way.ensures.refused)
+    c.index-files-input.result c.in-Err.fault (omega (arith, c.files-test.true)) c.index-files-input.is
+    c.in-Err.ensures.refused)

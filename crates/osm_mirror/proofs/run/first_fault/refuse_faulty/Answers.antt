@@ -1,6 +1,5 @@
 use Rattle.std.proofs.Common.{◌≡◌, ◌∷◌, [], ◌++◌, ◌+◌, take, get_or, arith, sym, subst}
 use Rattle.std.proofs.lemmas.List.{take_all}
-use Rattle.std.proofs.lemmas.Result.{err_from_is_err_and}
 use Rattle.std.specs.List.{All}
 use Rattle.osm_files.proofs.SinkLaws.{front_at}
 use Rattle.osm_mirror.specs.declared.run.files_job.JobFile.{JobFile}
@@ -8,17 +7,16 @@ use Rattle.osm_mirror.specs.declared.run.files_job.JobFile.TheVariants.{File}
 use Rattle.osm_mirror.specs.declared.run.files_job.Order.TheVariants.{Any}
 use Rattle.osm_mirror.specs.run.FilesRefusal.{AreSound}
 use Rattle.osm_mirror.proofs.run_laws.WayLaws.{all_more, among_by_rule}
-use Rattle.osm_mirror.proofs.run.first_fault.refuse_faulty.Goals.{in-File+in_ok-check_file, in_default}
+use Rattle.osm_mirror.proofs.run.first_fault.refuse_faulty.Goals.{in-File+in_default-check_file, in_default}
 use Rattle.osm_mirror.proofs.run.first_fault.refuse_faulty.Goals as goal
 
-pub returns-in_err-check_file-clause-refused : goal.returns-in_err-check_file-clause-refused
-returns-in_err-check_file-clause-refused g c =
-    let p = err_from_is_err_and c.from_residual.result c.from_residual.ensures.1 in
-    rw (p.1, p.2)
+pub returns-in-Err-clause-refused : goal.returns-in-Err-clause-refused
+returns-in-Err-clause-refused g c =
+    rw c.of_input.ensures
     (among_by_rule g.F.ReadAt.fails g.F.ReadAt.bytes g.R.Input.can_give Any c.args.files.now c.files.input
-    (File c.in-File.file c.in-File.end) c.in_err-check_file.field-0.0 (omega (arith, c.files-test.true))
+    (File c.in-File.file c.in-File.end) c.in-Err.fault (omega (arith, c.files-test.true))
     (subst (λ (x : JobFile _ _). x ≡ get_or c.args.files.now c.files.input x) c.in-File.is c.index-files-input.is)
-    c.in_err-check_file.ensures.refused)
+    c.in-Err.ensures.refused)
 
 pub files-preserved : goal.files-preserved
 files-preserved g c =
@@ -28,7 +26,7 @@ files-preserved g c =
     let more : take (c.files.input + 1) files ≡ take c.files.input files ++ file ∷ [] =
     front_at files c.files.input file (omega (arith, c.files-test.true)) c.index-files-input.is in
     let one : P file = elim c.match-file.branch [
-      | in-File+in_ok-check_file w ↦ subst P (sym w.in-File.is) w.in_ok-check_file.ensures.sound
+      | in-File+in_default-check_file w ↦ subst P (sym w.in-File.is) w.in_default-check_file.ensures.sound
       | in_default w ↦ subst P (sym w.in_default.is) tt
     ] in
     subst (All P) (sym more) (all_more P (take c.files.input files) file c.files.invariant one)

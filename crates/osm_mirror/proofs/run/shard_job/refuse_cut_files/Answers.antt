@@ -1,6 +1,5 @@
 use Rattle.std.proofs.Common.{◌≡◌, ◌∷◌, [], ◌++◌, ◌+◌, List, ℕ, Option, Bor, IfSome, false, take, arith, sym, subst}
 use Rattle.std.proofs.lemmas.List.{take_all}
-use Rattle.std.proofs.lemmas.Result.{err_from_is_err_and}
 use Rattle.std.specs.List.{All}
 use Rattle.osm_files.specs.EndRule.{lacks_its_end, rule_of_file}
 use Rattle.osm_files.proofs.SinkLaws.{front_at}
@@ -17,19 +16,17 @@ files-preserved g c =
     let file = c.index-files-input.result in
     let more : take (c.files.input + 1) files ≡ take c.files.input files ++ file ∷ [] =
     front_at files c.files.input file (omega (arith, c.files-test.true)) c.index-files-input.is in
-    subst (All P) (sym more) (all_more P (take c.files.input files) file c.files.invariant c.in_ok-refuse_cut_file.ensures.ended)
+    subst (All P) (sym more) (all_more P (take c.files.input files) file c.files.invariant c.in_default.ensures.ended)
 
-pub returns-in_err-refuse_cut_file-clause-refused : goal.returns-in_err-refuse_cut_file-clause-refused
-returns-in_err-refuse_cut_file-clause-refused g c =
+pub returns-in-Err-clause-refused : goal.returns-in-Err-clause-refused
+returns-in-Err-clause-refused g c =
     let known : Bor g.row.F.Denot → Option (List ℕ) = λ file. g.F.ReadAt.bytes file.now in
     let fails : Bor g.row.F.Denot → Type 0 = λ file. g.F.ReadAt.fails file.now in
     let files = c.args.files.now in
     let file = c.index-files-input.result in
     let at = get_slice files c.files.input file (omega (arith, c.files-test.true)) c.index-files-input.is in
-    let p = err_from_is_err_and c.from_residual.result c.from_residual.ensures.1 in
-    rw (p.1, p.2)
-    (among_shard known fails c.args.end files c.files.input file c.in_err-refuse_cut_file.field-0.0 at
-    c.in_err-refuse_cut_file.ensures.refused)
+    rw c.of_input.ensures
+    (among_shard known fails c.args.end files c.files.input file c.in-Err.fault at c.in-Err.ensures.refused)
 
 pub returns-clause-ended : goal.returns-clause-ended
 returns-clause-ended g c =
