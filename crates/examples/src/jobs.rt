@@ -13,7 +13,7 @@ ghost use Rattle.osm_mirror.specs.run.ShardJob.{shard_set};
 
 use osm_files::{EndRule, Fault, Format, Recorded, SliceIn, VecOut};
 use osm_mirror::{
-    FilesJob, JobInput, NoProgress, Order, Selection, Shard, ShardJob, job_files, run_files,
+    FilesJob, InputsJob, JobInput, NoProgress, Order, Selection, Shard, ShardJob, run_inputs,
     run_shard,
 };
 use std::alloc::Global;
@@ -37,16 +37,15 @@ pub fn map_of_reads(
         inputs.now held
         × (file.items ≡ spell format.Opl (selection_of selection.NewestVisible (union_of held)))) }
 {
-    let job = FilesJob {
+    let job = InputsJob::Whole(FilesJob {
         selection: Selection::NewestVisible,
         order: Order::Any,
         tries_largest: true,
         format: Format::Opl,
-    };
+    });
     let streams: Vec<SliceIn<'_>> = Vec::new(alloc);
-    let files = job_files(alloc, inputs, streams)?;
     let mut output = VecOut::new(alloc);
-    run_files(alloc, job, files, &mut output, &mut NoProgress)?;
+    run_inputs(alloc, job, inputs, streams, &mut output, &mut NoProgress)?;
     Ok(output.into_vec())
 }
 

@@ -178,7 +178,7 @@ fn read_line<F: ReadAt>(alloc: Global, file: &F, offset: u64, next: u64) -> Resu
         → IsLineRead (F.fails file.now) (spec.first_line (bytes_between offset next all)) next result) }
     ensures onward { IfOk result (IsOnward offset next) }
 {
-    let bytes = read_exact(alloc, file, 0, offset, (next - offset) as usize)?;
+    let bytes = read_exact(alloc, file, offset, (next - offset) as usize)?;
     match read_key(&mut LineReader::new(alloc), first_line(&bytes)) {
         Ok(Some(key)) => Ok(Front::Keyed(key)),
         Ok(None) => Ok(Front::Skipped(next)),

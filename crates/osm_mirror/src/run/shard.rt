@@ -55,7 +55,7 @@ pub fn is_opl<F: ReadAt>(file: &F) -> Result<bool, Fault>
     ensures opl { IfOk result (λ is_so. IfSome (F.bytes file.now) (λ all. is_so ≡ is_opl all)) }
     ensures refused { IfErr result (IsReadFailure (F.fails file.now)) }
 {
-    let size = opl_size(file, 0)?;
+    let size = opl_size(file)?;
     Ok(size.is_some())
 }
 
