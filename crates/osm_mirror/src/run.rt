@@ -34,6 +34,7 @@ mod shard_job;
 mod slice;
 mod source;
 mod tally;
+mod tally_file;
 
 use crate::run::source::open_inputs;
 pub use any_order::{run_apply, run_period_filter, run_sort, run_time_filter};
@@ -57,6 +58,7 @@ pub use shard_job::{ShardJob, run_shard};
 pub use slice::{Slice, SliceFile, run_slice};
 use std::alloc::Global;
 pub use tally::Tally;
+pub use tally_file::run_tally_file;
 
 /// Appends the one file of the format `format` that holds the selection of the versions of all inputs, each once.
 ///

@@ -5,9 +5,10 @@ use super::refusal::Refusal;
 use super::request::{Flags, InputFiles};
 use super::target::refuse_standard_output;
 use super::{Host, hint, print};
-use osm_files::{EndRule, Fault, FramedExtent, ReadAt, Reason, SortedRun};
+use osm_files::Fault;
 use osm_mirror::{
-    Checked, CheckedFile, CheckedJson, EscapedOut, RefusedJson, run_tally, run_tally_sorted,
+    CheckedFile, CheckedJson, EscapedOut, Order, RefusedJson, run_tally, run_tally_file,
+    run_tally_sorted,
 };
 use std::alloc::{AllocError, Global};
 use std::cell::Cell;
@@ -91,10 +92,11 @@ fn check_file<'a, I: Read + Drop>(
     reads: &Cell<u64>,
 ) -> Result<CheckedFile<'a>, Refusal<'a>> {
     let alloc = rt.alloc();
+    let order = if sorted { Order::Sorted } else { Order::Any };
     let mut streams = Vec::new(alloc);
     let input = open_input(rt, files, arg, stdin, &mut streams, reads)?;
     let checked = match (&input.regular, streams.pop()) {
-        (Some(file), _) => check_regular(alloc, file, input.end, sorted),
+        (Some(file), _) => run_tally_file(alloc, order, input.end, file),
         (None, Some(stream)) if sorted => run_tally_sorted(alloc, input.end, stream),
         (None, Some(stream)) => run_tally(alloc, input.end, stream),
         (None, None) => Err(Fault::failed(0)),
@@ -108,24 +110,5 @@ fn check_file<'a, I: Read + Drop>(
             checked,
         }),
         Err(fault) => Err(Refusal::of_fault(alloc, fault, name, None)),
-    }
-}
-
-/// Checks a regular file, which has to end as `end` requires. It is held in memory only if it isn't sorted.
-fn check_regular<F: ReadAt>(
-    alloc: Global,
-    file: &F,
-    end: EndRule,
-    sorted: bool,
-) -> Result<Checked, Fault> {
-    let Ok(size) = file.size() else {
-        return Err(Fault::at(0, 0, Reason::ReadFault));
-    };
-    let whole = SortedRun::whole();
-    match run_tally_sorted(alloc, end, FramedExtent::of_run(file, size, whole)) {
-        Err(fault) if fault.reason == Reason::Unsorted && !sorted => {
-            run_tally(alloc, end, FramedExtent::of_run(file, size, whole))
-        }
-        outcome => outcome,
     }
 }

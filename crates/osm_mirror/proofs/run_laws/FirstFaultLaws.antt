@@ -16,7 +16,7 @@ use Rattle.osm_files.specs.EndRule.{by_rule, cut_if, lacks_its_end, rule_of_file
 use Rattle.osm_files.specs.Extent.{RunCanGive}
 use Rattle.osm_files.specs.Fault.{memory_fault, too_long_fault, write_fault}
 use Rattle.osm_files.specs.FileRuns.{IsAccepted}
-use Rattle.osm_files.specs.Input.{InputRest, failed_after}
+use Rattle.osm_files.specs.Input.{InputRest, failed_after, whole_input}
 use Rattle.osm_files.specs.Sink.{CutShort}
 use Rattle.osm_files.specs.SortedRun.{run_bytes, whole_run}
 use Rattle.osm_files.specs.SourceLaws.{input_verdict}
@@ -35,6 +35,8 @@ use Rattle.osm_mirror.specs.declared.run.files_job.JobFile.{JobFile}
 use Rattle.osm_mirror.specs.declared.run.files_job.JobFile.TheVariants.{File, Stream}
 use Rattle.osm_mirror.specs.declared.run.files_job.Order.{Order}
 use Rattle.osm_mirror.specs.declared.run.files_job.Order.TheVariants.{Sorted, Any}
+use Rattle.osm_mirror.specs.declared.run.check.Checked.{Checked}
+use Rattle.osm_mirror.specs.run.Check.{IsChecked, IsCheckedFile}
 use Rattle.osm_mirror.specs.run.FilesJob.{opened_of}
 use Rattle.osm_mirror.specs.run.FilesRefusal.{verdict_by_end, IsVerdict, IsFailedRead, IsFaultOfFile, IsRefusedFileBy, IsSoundFile}
 use Rattle.osm_mirror.specs.run.FilesRefusal.{IsAcceptedAs}
@@ -140,6 +142,21 @@ read_sound Fails (Some all) size c order end small sized gives (none, accepted) 
     run_given Fails all whole_run size c sized gives ends.1 ∙ whole Fails all size end small sized in (
       accepted_known order c.bytes all is accepted,
       ap (λ (xs : List ℕ). lacks_its_end (rule_of_file end) xs) (sym is) ∙ ap (λ t. not t) ends.0,
+    )
+
+-- A regular file that was read to its end, and that has these bytes, is checked as they are.
+pub checked_file : (Fails : Type 0) (known : Option (List ℕ)) (size : ℕ) (c : InputRest) (end : EndRule) (checked : Checked)
+    → size < 2 ^ 62 → IfSome known (λ all. length all ≡ size) → RunCanGive Fails known whole_run size c
+    → IsChecked (by_rule (rule_of_file end) c) checked → IfSome known (IsCheckedFile end checked)
+checked_file Fails None size c end checked small sized gives is = tt
+checked_file Fails (Some all) size c end checked small sized gives is =
+    let none = is.report.file.unbroken in
+    let ends = ends_by_rule (rule_of_file end) c none in
+    let same : c.bytes ≡ all =
+    run_given Fails all whole_run size c sized gives ends.1 ∙ whole Fails all size end small sized in
+    let whole_is : by_rule (rule_of_file end) c ≡ whole_input all = (λ i. record { bytes = same i; failure = none i }) in (
+      subst (λ (d : InputRest). IsChecked d checked) whole_is is,
+      ap (λ (xs : List ℕ). lacks_its_end (rule_of_file end) xs) (sym same) ∙ ap (λ t. not t) ends.0,
     )
 
 -- ---- the files of a job

@@ -1,11 +1,13 @@
 -- The report of the check of a file: an own rule of this project.
-use Rattle.std.specs.Prelude.{◌≡◌, ◌↔◌, ℕ, ◌+◌, Bool, IsTrue, List, [], ◌∷◌, length, Option, Some, None, if◌then◌else◌}
+use Rattle.std.specs.Prelude.{◌≡◌, ◌↔◌, ℕ, ◌+◌, Bool, false, IsTrue, List, [], ◌∷◌, length, Option, Some, None, if◌then◌else◌}
 use Rattle.osm_model.specs.Data.{VersionData}
 use Rattle.osm_model.specs.VersionSet.{VersionSet}
 use Rattle.osm_model.specs.Sets.{size, to_list}
 use Rattle.osm_files.specs.declared.format.Format.{Format}
 use Rattle.osm_files.specs.Held.{HoldsSorted}
-use Rattle.osm_files.specs.Input.{InputRest}
+use Rattle.osm_files.specs.declared.end_rule.EndRule.{EndRule}
+use Rattle.osm_files.specs.EndRule.{lacks_its_end, rule_of_file}
+use Rattle.osm_files.specs.Input.{InputRest, whole_input}
 use Rattle.osm_files.specs.Load.{format_of}
 use Rattle.osm_merge.specs.ToCome as source
 use Rattle.osm_merge.specs.Pass.{same_object}
@@ -42,6 +44,11 @@ pub record TalliesFile (c : InputRest) (tally : Tally) : Type 0 where
 pub record IsChecked (c : InputRest) (checked : Checked) : Type 0 where
   pub report : Reports c checked.report
   pub tally : TalliesFile c checked.tally
+
+-- a regular file of these bytes is checked, which end as its rule says
+abbrev pub IsCheckedFile : EndRule → Checked → List ℕ → Type 0
+IsCheckedFile end checked all =
+    IsChecked (whole_input all) checked × (lacks_its_end (rule_of_file end) all ≡ false)
 
 -- the report on a file of this format and these sizes, with its tally
 abbrev pub checked_as : Format → Bool → Sizes → Checked
