@@ -28,10 +28,7 @@ use std::alloc::Global;
 ///
 /// The first fault of a file, by its index in the list; of the output, by the length of the list; or `Memory`. `Failed`
 /// if an input has no regular file.
-pub fn map_of_reads(
-    alloc: Global,
-    inputs: &[JobInput<(), Recorded<'_>>],
-) -> Result<Vec<u8>, Fault>
+pub fn map_of_reads(alloc: Global, inputs: &[JobInput<(), Recorded<'_>>]) -> Result<Vec<u8>, Fault>
     ensures { IfOk result (λ file. (held : List VersionSet)
         × Pairwise (λ input set. IfSome input.regular (λ reads. Holds (reads.front ++ all_bytes reads.results) set))
         inputs.now held
@@ -49,8 +46,8 @@ pub fn map_of_reads(
     Ok(output.into_vec())
 }
 
-/// What the shard `shard` has of the map of sorted files in memory, as OPL. The jobs of all shards find the same bounds,
-/// each by itself.
+/// What the shard `shard` has of the map of sorted files in memory, as OPL. The jobs of all shards find the same
+/// bounds, each by itself.
 ///
 /// # Errors
 ///

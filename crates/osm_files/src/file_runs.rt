@@ -41,8 +41,8 @@ use std::alloc::Global;
 ///
 /// # Errors
 ///
-/// The fault of the file, with the number 0, if a line or data set can't be read, or if the file can't be read; or `Memory`. A file that is
-/// accepted in some order of its versions is refused only if a read fails or memory runs out.
+/// The fault of the file, with the number 0, if a line or data set can't be read, or if the file can't be read; or
+/// `Memory`. A file that is accepted in some order of its versions is refused only if a read fails or memory runs out.
 pub fn find_runs<F: ReadAt>(
     alloc: Global,
     file: &F,

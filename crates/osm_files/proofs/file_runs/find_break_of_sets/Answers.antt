@@ -15,6 +15,6 @@ pub returns-in-Falls : goal.returns-in-Falls
 returns-in-Falls g c =
     let file = c.args.file.now in
     record {
-      order = sets_break (g.F.ReadAt.fails file) (g.F.ReadAt.bytes file) c.args.size c.args.run (Some c.in-Falls.offset) (Falls c.in-Falls.offset)
-          refl (rw c.in-Falls.is at c.in_ok-order_of_run.ensures.order);
+      order = sets_break (g.F.ReadAt.fails file) (g.F.ReadAt.bytes file) c.args.size c.args.run (Some c.in-Falls.offset)
+          (Falls c.in-Falls.offset) refl (rw c.in-Falls.is at c.in_ok-order_of_run.ensures.order);
     }

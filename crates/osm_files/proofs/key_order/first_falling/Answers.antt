@@ -62,8 +62,8 @@ returns-in-Err g c =
     let all_there : nat_eq count left ≡ true → lines.end + length window ≡ c.args.end =
     λ last. (let e = eqb-true count left last in omega (arith, long, e, less)) in
     record {
-      order = rw c.outcome.ensures (window_stops c.args.start c.args.end lines window (nat_eq count left) c.windows.invariant.0 less fits all_there
-          Fails known c.in-Err.stop (subst (AreAt known lines.end) (sym c.deref.ensures.value) c.in_ok-bytes.ensures.bytes)
+      order = rw c.outcome.ensures (window_stops c.args.start c.args.end lines window (nat_eq count left) c.windows.invariant.0 less fits
+          all_there Fails known c.in-Err.stop (subst (AreAt known lines.end) (sym c.deref.ensures.value) c.in_ok-bytes.ensures.bytes)
           c.windows.invariant.3 c.in-Err.ensures.read);
     }
 

@@ -13,7 +13,8 @@ returns-in-Err g c =
     record {
       order = keyed_before known c.args.start c.args.end c.in-Err.read
           (sets_on c.args.start c.args.end sets window fits known c.in-Err.read
-          (subst (AreAt known sets.end) (sym c.deref.ensures.value) c.in_ok-bytes.ensures.bytes) c.windows.invariant.2 c.in-Err.ensures.read);
+          (subst (AreAt known sets.end) (sym c.deref.ensures.value) c.in_ok-bytes.ensures.bytes)
+          c.windows.invariant.2 c.in-Err.ensures.read);
     }
 
 pub windows-preserved : goal.windows-preserved
