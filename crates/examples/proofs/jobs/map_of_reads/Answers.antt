@@ -36,4 +36,8 @@ inputs_hold can (input ∷ inputs) (File f end ∷ files) (set ∷ held) (others
 inputs_hold can (input ∷ inputs) (Stream r end ∷ files) (set ∷ held) (others, is, rest) hold = let none = is.2 in cc
 
 pub returns : goal.returns
-returns c = ?
+returns c =
+    let done = c.in_ok-run_inputs.ensures.written in
+    let are = subst (λ streams. AreFilesOf c.args.inputs.now streams done.0) c.new-streams.ensures.items done.1 in
+    let is = done.2 in
+    (is.held, inputs_hold _ c.args.inputs.now done.0 is.held are is.accepted, c.into_vec.ensures ∙ is.written [] c.new-output.ensures.bytes)

@@ -10,4 +10,8 @@ have_bytes [] = tt
 have_bytes (file ∷ files) = (refl, have_bytes files)
 
 pub returns : goal.returns
-returns c = ?
+returns c held hold =
+    let files = c.args.files.now in
+    let all = map (λ (file : Bor (Bor (List ℕ))). file.now.now) files in
+    let is = c.in_ok-run_shard.ensures.written all held (have_bytes files) hold in
+    c.into_vec.ensures ∙ is.written [] c.new-output.ensures.bytes
