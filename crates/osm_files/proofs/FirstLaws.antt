@@ -1,10 +1,10 @@
 -- The key of the first version of lines from an offset on.
-use Rattle.std.proofs.Common.{◌≡◌, ◌⊎◌, inl, inr, ⊎_elim, ℕ, zero, suc, ◌+◌, ◌-◌, ◌≤◌, ◌<◌, Bool, true, false, not, cond, min}
+use Rattle.std.proofs.Common.{◌≡◌, ◌⊎◌, inl, inr, ⊎_elim, ℕ, zero, suc, ◌+◌, ◌-◌, ◌≤◌, ◌<◌, true, false, not, cond, min}
 use Rattle.std.proofs.Common.{List, [], ◌∷◌, ◌++◌, length, take, drop, filter, position, get_or, refl, sym, ap, ◌∙◌, subst, arith}
 use Rattle.std.proofs.Common.{Option, Some, None, IfSome, Result, Ok, Err, option_map, append_assoc, length-drop, add-one}
 use Rattle.std.proofs.Math.Seq.{take-append-add}
 use Rattle.std.proofs.lemmas.Bool.{cases_lt}
-use Rattle.std.proofs.lemmas.List.{drop-drop, drop-append-le, length-take-le}
+use Rattle.std.proofs.lemmas.List.{drop-drop, drop-append-le}
 use Rattle.std.proofs.lemmas.List.Elements.{filter-append}
 use Rattle.osm_model.specs.declared.object.Key.{Key}
 use Rattle.osm_model.specs.Data.{VersionData}
@@ -17,7 +17,6 @@ use Rattle.opl_line.proofs.CutLaws.{cut_split}
 use Rattle.osm_files.specs.declared.fault.Fault.{Fault}
 use Rattle.osm_files.specs.declared.lines.Front.{Front}
 use Rattle.osm_files.specs.declared.lines.Front.TheVariants.{Keyed, Skipped}
-use Rattle.osm_files.specs.FileRuns.{IsReadFailure}
 use Rattle.osm_files.specs.LineKey.{first_line, IsKeyOf, IsKeyOfFront}
 use Rattle.osm_files.specs.Lines.{after_line, line_size, line_start_from, bytes_between, IsLineStart, IsFirstOf, IsFirstIn}
 use Rattle.osm_files.specs.Lines.{IsFirstBetween, SpellsAlso, AreSkipped, IsFront, IsLineRead}

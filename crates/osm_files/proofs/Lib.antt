@@ -44,6 +44,7 @@ mod RecordedLaws
 pub mod RunBytes
 mod UnsortedLaws
 pub mod RunOrderLaws
+mod CommentLaws
 pub mod CutLaws
 pub mod FrontLaws
 pub mod JoinLaws

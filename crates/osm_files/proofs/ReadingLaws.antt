@@ -179,10 +179,10 @@ none_among None held more empty none = ap (unit_at (state_or_start None more)) (
 none_among (Some s) held more empty none = none
 
 -- No unit is whole in the bytes that were searched, whatever was read after them.
-pub none_still : {C : Type 0} (m q r : Position C) → FindsUnit m (Ok None) q → r.stage ≡ q.stage → take (length q.held) r.held ≡ q.held
-    → unit_at (state_at r) (take (length q.held) r.held) ≡ None
-none_still m q r h stage kept =
-    (λ i. unit_at (state_or_start (stage i) r.held) (kept i)) ∙ none_among q.stage q.held r.held (none_known m q h) (none_there m q h)
+pub none_still : {C : Type 0} (q r : Position C) → (q.stage ≡ None → q.held ≡ []) → unit_at (state_at q) q.held ≡ None
+    → r.stage ≡ q.stage → take (length q.held) r.held ≡ q.held → unit_at (state_at r) (take (length q.held) r.held) ≡ None
+none_still q r known none stage kept =
+    (λ i. unit_at (state_or_start (stage i) r.held) (kept i)) ∙ none_among q.stage q.held r.held known none
 
 -- the finding doesn't depend on the rest
 telling_seen : {R : Type 0} (p : Position R) (c : InputRest) → with_rest (with_state p) c ≡ with_state (with_rest p c)

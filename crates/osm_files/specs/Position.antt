@@ -12,7 +12,7 @@ use Rattle.osm_files.specs.declared.unit.ReadUnit.{ReadUnit}
 use Rattle.osm_files.specs.Fault.{memory_fault, failed_fault}
 use Rattle.osm_files.specs.Input.{InputRest, whole_input as all_of, broken_input, with_front, Explained, GivesOne}
 use Rattle.osm_files.specs.Stream.{Verdict, verdict_at, Placed, SourceRest, end_refused}
-use Rattle.osm_files.specs.Units.{FileStateData, units, unit, unit_at, start_of}
+use Rattle.osm_files.specs.Units.{FileStateData, InOpl, units, unit, unit_at, start_of}
 use Rattle.osm_files.specs.Verdict.{length_limit, too_long_verdict}
 
 -- The position of a reading: the number of its input, and the offset in the file of the first byte held; the bytes
@@ -143,6 +143,11 @@ pub record KeepsRest (p q : KnownPosition) : Type 0 where
   pub offset : p.offset ≤ q.offset
   pub failed : q.failed ≡ p.failed
   pub keeps : Keeps (rest_of_units p) (rest_of_units q)
+
+-- all but the first byte of a comment, whose end isn't held, were dropped
+abbrev pub IsShortened : {C : Type 0} → Position C → Position C → Type 0
+IsShortened p q = (p.stage ≡ Some InOpl) × ((xs : List ℕ) × (p.held ≡ 35 ∷ xs)
+    × (q ≡ record p { offset = p.offset + length xs; held = 35 ∷ [] }))
 
 -- the stage of the reading, as far as the bytes held determine it
 abbrev pub state_at : {C : Type 0} → Position C → FileStateData

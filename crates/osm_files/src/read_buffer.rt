@@ -78,6 +78,14 @@ impl ReadBuffer {
         self.from += count;
     }
 
+    /// Keeps only the first `count` bytes.
+    pub(crate) fn truncate(&mut self, count: usize)
+        requires { count ≤ length self.old }
+        ensures { self.new ≡ take count self.old }
+    {
+        self.end = self.from + count;
+    }
+
     /// Moves the bytes held to the front of `buffer`, unless they are already there.
     fn compact(&mut self)
         ensures { self.new ≡ self.old }

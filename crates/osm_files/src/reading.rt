@@ -16,7 +16,8 @@ ghost use Rattle.osm_files.specs.Source.{StepsOn};
 ghost use Rattle.osm_files.specs.Load.{format_of, determines_format, is_o5m, DeterminesFormat};
 ghost use Rattle.osm_files.specs.declared.format.Format.TheVariants.{O5m, O5c};
 ghost use Rattle.osm_files.specs.Stream.{new_placed};
-ghost use Rattle.osm_files.specs.Position.{Between, HasRead, StopsAt, FindsUnit, with_state, state_at, units_left};
+ghost use Rattle.osm_files.specs.Position.{Between, HasRead, StopsAt, FindsUnit, IsShortened, with_state, state_at};
+ghost use Rattle.osm_files.specs.Position.{units_left};
 
 use crate::end_rule::{EndRule, EndTest};
 use crate::fault::{Fault, LENGTH_LIMIT};
@@ -30,6 +31,9 @@ use crate::unit::{FileState, ReadUnit};
 use osm_model::Version;
 use std::alloc::Global;
 use std::marker::Model;
+
+/// The least number of bytes of a comment that are dropped before its end is read.
+const LONG_COMMENT: usize = 65536;
 
 /// A reading of the units of an input.
 #[derive(Drop)]
@@ -199,6 +203,22 @@ impl<R: Input> Reading<R> {
         }
     }
 
+    /// Drops all but the first byte of a long comment whose end isn't held. No version depends on its bytes, so a
+    /// comment of 300 MB takes no more memory than one of 64 KB.
+    #[inline(never)]
+    fn shorten_comment(&mut self)
+        ensures { (self.new ≡ self.old) ⊎ IsShortened self.old self.new }
+    {
+        let held = self.read_buffer.len();
+        if held < LONG_COMMENT || self.read_buffer.as_slice()[0] != b'#' {
+            return;
+        }
+        if let Some(FileState::Lines(_)) = &self.stage {
+            self.offset += (held - 1) as u64;
+            self.read_buffer.truncate(1);
+        }
+    }
+
     /// Passes a unit of the bytes held, and returns the version that it holds, if any.
     fn pass(&mut self, unit: ReadUnit) -> Option<Placed>
         requires { unit.size ≤ length self.old.held }
@@ -300,6 +320,7 @@ impl<R: Input> Reading<R> {
                 },
                 Ok(None) if self.ended => return self.finish_input(),
                 Ok(None) => {
+                    self.shorten_comment();
                     searched = self.read_buffer.len();
                     self.fill()?;
                 }

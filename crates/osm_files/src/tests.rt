@@ -1,5 +1,6 @@
 //! Files that come in pieces: the results depend on their bytes only.
 use crate::devices::Pieces;
+use crate::end_rule::EndRule;
 use crate::input::{FromRead, SliceIn};
 use crate::source::FileSource;
 use crate::texts::{given_text, loaded_text, push_next};
@@ -315,6 +316,51 @@ fn long_line_text(alloc: Global) -> String {
 fn long_line_in_pieces(rt: HostRuntime) {
     let text = "opl sorted\n300010 bytes\nn2 v1 dV c0 t i0 u T x1 y1\n";
     assert_eq!(rt; long_line_text(rt.alloc()).as_str(), text);
+}
+
+/// The versions of a file with a comment of 200,000 bytes and `after` after it. The file comes by `step` bytes a read
+/// and has to end as `end` says.
+fn long_comment_text(alloc: Global, end: EndRule, after: &[u8], step: usize) -> String {
+    let mut file = Vec::new(alloc);
+    let _ = file.extend_from_slice(b"n1 v1 x1 y1\n#");
+    let _ = file.resize(200_012, b'a');
+    let _ = file.extend_from_slice(after);
+    let read = Cell::new(0usize);
+    let pieces = Pieces {
+        rest: &file,
+        step,
+        read: &read,
+        fails: false,
+    };
+    given_text(
+        alloc,
+        FileSource::with_peers(alloc, 0, end, FromRead::new(pieces), 1),
+    )
+}
+
+#[test]
+fn long_comment_in_pieces(rt: HostRuntime) {
+    let given = "n1 v1 dV c0 t i0 u T x1 y1\nend\nend\nend\n";
+    let more = "n1 v1 dV c0 t i0 u T x1 y1\nn2 v1 dV c0 t i0 u T x1 y1\nend\nend\nend\n";
+    let faulty =
+        "file 0, byte 200014: NoLocation\nfile 0, byte 0: Failed\nfile 0, byte 0: Failed\n";
+    let cut = "file 0, byte 200012: NoEnd\nfile 0, byte 0: Failed\nfile 0, byte 0: Failed\n";
+    for (end, after, text) in [
+        (EndRule::Any, b"".as_slice(), given),
+        (EndRule::Any, b"\nn2 v1 x1 y1", more),
+        (EndRule::Any, b"\r\nn2 v1 x1\n", faulty),
+        (EndRule::LineFeed, b"\n", given),
+        (EndRule::LineFeed, b"", cut),
+        (EndRule::Mark, b"\n# end\n", given),
+        (EndRule::Mark, b"", cut),
+    ] {
+        for step in [1, 4_096, 65_536] {
+            assert_eq!(rt;
+                long_comment_text(rt.alloc(), end, after, step).as_str(),
+                text
+            );
+        }
+    }
 }
 
 /// Five nodes, each in a line of 15 bytes.

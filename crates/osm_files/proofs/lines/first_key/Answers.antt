@@ -1,6 +1,5 @@
-use Rattle.std.proofs.Common.{arith}
 use Rattle.std.proofs.lemmas.Result.{err_from_is_err_and}
-use Rattle.osm_files.proofs.FirstLaws.{none_passed, more_passed, first_keyed, first_refused, first_none}
+use Rattle.osm_files.proofs.FirstLaws.{none_passed, more_passed, first_keyed, first_refused}
 use Rattle.osm_files.proofs.lines.first_key.Goals as goal
 
 pub fronts-init : goal.fronts-init

@@ -1,4 +1,4 @@
-use Rattle.std.proofs.Common.{◌≡◌, ◌+◌, ◌-◌, ◌≤◌, ◌<◌, List, ℕ, take, drop, length, get_or, arith, rules, sym, ap, subst, ◌∙◌}
+use Rattle.std.proofs.Common.{◌≡◌, ◌-◌, ◌≤◌, ◌<◌, List, ℕ, take, drop, length, get_or, arith, rules, subst}
 use Rattle.std.proofs.lemmas.List.{take-append-le}
 use Rattle.osm_files.specs.LineKey.{IsKeyOfFront}
 use Rattle.osm_files.specs.Lines.{AreSkipped}

@@ -1,9 +1,9 @@
-use Rattle.std.proofs.Common.{◌≡◌, ◌⊎◌, ◌+◌, inl, inr, Some, List, ℕ, drop, position, get_or, length, arith, sym, ap, ◌∙◌}
+use Rattle.std.proofs.Common.{◌≡◌, ◌⊎◌, inl, inr, Some, List, ℕ, drop, position, get_or, arith, sym, ap, ◌∙◌}
 use Rattle.std.proofs.Common.{length-drop}
 use Rattle.std.proofs.lemmas.List.{take_rest}
 use Rattle.opl_line.specs.Delimiter.{is_line_end}
 use Rattle.opl_line.proofs.CutLaws.{split_at}
-use Rattle.osm_files.proofs.FirstLaws.{nothing_skipped, skips_on}
+use Rattle.osm_files.proofs.FirstLaws.{skips_on}
 use Rattle.osm_files.proofs.lines.skipped_size.Goals as goal
 use Rattle.osm_files.proofs.lines.skipped_size.Goals.{else-size-gt0-via-then-size-gt0+else-rest-ne35, else-size-gt0-via-else-size-gt0}
 

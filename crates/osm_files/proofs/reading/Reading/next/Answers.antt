@@ -1,9 +1,10 @@
 use Rattle.std.proofs.Common.{rules, ◌≡◌, ◌∙◌, ap, arith, length, length-take, Ok, Err, Some, false, sym, refl}
 use Rattle.std.proofs.lemmas.Result.{err_from_is_err_and}
+use Rattle.osm_files.proofs.CommentLaws.{gone_shorter}
 use Rattle.osm_files.proofs.PositionLaws.{none_in_nothing}
 use Rattle.osm_files.proofs.ReaderLaws.{unread, has_gone, gone_none, gone_read, gone_further, steps_from, unit_gives, unit_passes}
 use Rattle.osm_files.proofs.ReaderLaws.{unit_further, unit_lessens, unit_refused, fill_refused}
-use Rattle.osm_files.proofs.ReadingLaws.{held_size, none_there, some_found, none_found, none_same, none_still, failed_already}
+use Rattle.osm_files.proofs.ReadingLaws.{held_size, some_found, none_found, none_same, none_still, failed_already}
 use Rattle.osm_files.specs.Fault.{fault_at, failed_fault}
 use Rattle.osm_files.specs.Position.{state_at, with_rest, units_or_failed}
 use Rattle.osm_files.specs.Source.{SourceStep}
@@ -87,35 +88,33 @@ returns-in-Ok-None-clause-step g c =
 pub units-preserved : goal.units-preserved
 units-preserved g c =
     let m = c.units.self in
-    let q = c.read_held.new.self in
-    let found = none_found m q c.in-Ok-None.field-0 c.in-Ok-None.field-0-is c.in-Ok-None.ensures.found in
-    let same = none_same m q found in
+    let r = c.shorten_comment.new.self in
+    let found = none_found m c.read_held.new.self c.in-Ok-None.field-0 c.in-Ok-None.field-0-is c.in-Ok-None.ensures.found in
+    let short =
+    gone_shorter g.R.Input.can_give c.args.self.now m c.read_held.new.self r c.units.invariant.on c.read_held.ensures.bound found
+    c.shorten_comment.ensures in
     let read = c.in_ok-fill-in-Ok-None-2.ensures in
-    let size : c.len-searched.result ≡ length q.held = search rules in
+    let size : c.len-searched.result ≡ length r.held = search rules in
     record {
-      on =
-          gone_read g.R.Input.can_give c.args.self.now q c.fill.new.self
-          (gone_none g.R.Input.can_give c.args.self.now m q c.units.invariant.on found same.0 same.1 same.2 same.3) read.on
-          c.fill.ensures.input;
-      within = omega (arith, size, ap length read.kept, length-take (length q.held) c.fill.new.self.held);
-      none = rw size (none_still m q c.fill.new.self found read.on.stage read.kept);
+      on = gone_read g.R.Input.can_give c.args.self.now r c.fill.new.self short.on read.on c.fill.ensures.input;
+      within = omega (arith, size, ap length read.kept, length-take (length r.held) c.fill.new.self.held);
+      none = rw size (none_still r c.fill.new.self short.known short.none read.on.stage read.kept);
     }
 
 pub returns-in_err-fill-in-Ok-None-2-clause-step : goal.returns-in_err-fill-in-Ok-None-2-clause-step
 returns-in_err-fill-in-Ok-None-2-clause-step g c =
     let m = c.units.self in
-    let q = c.read_held.new.self in
-    let found = none_found m q c.in-Ok-None.field-0 c.in-Ok-None.field-0-is c.in-Ok-None.ensures.found in
-    let same = none_same m q found in
+    let r = c.shorten_comment.new.self in
+    let found = none_found m c.read_held.new.self c.in-Ok-None.field-0 c.in-Ok-None.field-0-is c.in-Ok-None.ensures.found in
+    let short =
+    gone_shorter g.R.Input.can_give c.args.self.now m c.read_held.new.self r c.units.invariant.on c.read_held.ensures.bound found
+    c.shorten_comment.ensures in
     let e = err_from_is_err_and c.from_residual.result c.from_residual.ensures.1 in
     let fault = c.in_err-fill-in-Ok-None-2.field-0.0 in
-    let fine : q.failed ≡ false = same.3 ∙ c.units.invariant.on.failed ∙ (sym (ap (λ v. v.failed) c.self.view_is) ∙ c.if-self.false) in
-    let refuses =
-    fill_refused g.R.Input.can_give q c.fill.new.self fault fine c.in_err-fill-in-Ok-None-2.ensures.refused (none_there m q found)
-    (search rules) c.in_err-fill-in-Ok-None-2.ensures.stops in
-    rw (e.1, e.2) (steps_from g.R.Input.can_give c.args.self.now q c.fill.new.self (Err fault)
-    (gone_none g.R.Input.can_give c.args.self.now m q c.units.invariant.on found same.0 same.1 same.2 same.3)
-    (sym (ap (λ v. v.failed) c.self.view_is) ∙ c.if-self.false) refuses)
+    let fine : c.args.self.now.failed ≡ false = sym (ap (λ v. v.failed) c.self.view_is) ∙ c.if-self.false in
+    rw (e.1, e.2) (steps_from g.R.Input.can_give c.args.self.now r c.fill.new.self (Err fault) short.on fine
+    (fill_refused g.R.Input.can_give r c.fill.new.self fault (short.on.failed ∙ fine) c.in_err-fill-in-Ok-None-2.ensures.refused
+    short.none short.bound c.in_err-fill-in-Ok-None-2.ensures.stops))
 
 pub returns-in-Err-clause-step : goal.returns-in-Err-clause-step
 returns-in-Err-clause-step g c =
