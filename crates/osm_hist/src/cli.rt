@@ -22,7 +22,7 @@ use file_run::make_output;
 use osm_mirror::{Escaped, Explanation, ReasonList};
 use plan_run::run_plan;
 pub(crate) use refusal::Refusal;
-use request::Request;
+use request::{InputFiles, OutputRequest, Request, read_list};
 use std::alloc::{AllocGlobal, Global};
 use std::convert::AsStr;
 use std::fs::File;
@@ -67,22 +67,22 @@ where
     } else {
         parse(rt.alloc(), arguments)
     };
-    let outcome = match parsed {
+    match parsed {
         Ok(matches) => match matches.subcommand() {
-            Some((name, matches)) => {
-                return run_command(rt, name, matches, stdin, &mut out, &mut err);
+            Some((name, matches)) => run_command(rt, name, matches, stdin, &mut out, &mut err),
+            None => {
+                let printed = print_explanation(rt.alloc(), matches.get_str("explain"), &mut out);
+                status_of(rt, printed, &mut err, false)
             }
-            None => print_explanation(rt.alloc(), matches.get_str("explain"), &mut out),
         },
-        Err(help) if !help.use_stderr() => print_help(rt.alloc(), &help, &mut out),
+        Err(help) if !help.use_stderr() => {
+            status_of(rt, print_help(rt.alloc(), &help, &mut out), &mut err, false)
+        }
         Err(mistake) => {
             let shown = escaped_mistake(rt.alloc(), arguments).filter(|_| err.is_terminal());
-            Err(Refusal::of_arguments(shown.unwrap_or(mistake)))
+            let mistake = Refusal::of_arguments(shown.unwrap_or(mistake));
+            hint::report(rt, &mistake, &mut err, false)
         }
-    };
-    match outcome {
-        Ok(()) => 0,
-        Err(refusal) => hint::report(rt, &refusal, &mut err, false),
     }
 }
 
@@ -113,30 +113,46 @@ fn run_command<I: Read + Drop, O: Write + IsTerminal, E: Write + IsTerminal>(
     if name == "plan" {
         return run_plan(rt, matches, out, err);
     }
-    let hints = matches.get_flag("hints");
-    let mut stdin = Some(stdin);
-    match Request::of_matches(rt, name, matches, &mut stdin) {
-        Ok(request) => match run_request(rt, &request, stdin, out, err) {
-            Ok(status) => status,
-            Err(refusal) => hint::report(rt, &refusal, err, hints),
-        },
-        Err(refusal) => hint::report(rt, &refusal, err, hints),
+    match Request::of_matches(rt.alloc(), name, matches) {
+        Ok(request) => run_request(rt, request, stdin, out, err),
+        Err(refusal) => hint::report(rt, &refusal, err, matches.get_flag("hints")),
     }
 }
 
-/// Runs the request over the files that it names, itself or by its list, and returns the exit status.
-fn run_request<'a, I: Read + Drop, O: Write + IsTerminal, E: Write + IsTerminal>(
+/// Reads the list of files that the request names, if it names one, runs the request, and reports its outcome.
+fn run_request<I: Read + Drop, O: Write + IsTerminal, E: Write + IsTerminal>(
     rt: &impl Host,
-    request: &'a Request<'a>,
+    request: Request<'_>,
+    stdin: I,
+    out: &mut O,
+    err: &mut E,
+) -> u8 {
+    let (mut stdin, hints) = (Some(stdin), request.flags.hints);
+    let (text, list) = match read_list(rt, &request, &mut stdin) {
+        Ok(list) => list,
+        Err(refusal) => return hint::report(rt, &refusal, err, hints),
+    };
+    let request = match request.with_list(rt.alloc(), text.as_str(), list) {
+        Ok(request) => request,
+        Err(refusal) => return hint::report(rt, &refusal, err, hints),
+    };
+    let outcome = match &request.output {
+        Some(output) => write_output(rt, output, &request.files, stdin, out, err),
+        None => check_files(rt, request.flags, &request.files, stdin, out, err),
+    };
+    status_of(rt, outcome, err, hints)
+}
+
+/// Makes OUT from the files, and advises of what may surprise. Returns the exit status.
+fn write_output<'a, I: Read + Drop, O: Write + IsTerminal, E: Write + IsTerminal>(
+    rt: &impl Host,
+    output: &OutputRequest<'a>,
+    files: &InputFiles<'a>,
     stdin: Option<I>,
     out: &mut O,
     err: &mut E,
 ) -> Result<u8, Refusal<'a>> {
-    let files = request.files(rt.alloc())?;
-    let Some(output) = &request.output else {
-        return check_files(rt, request.flags, &files, stdin, out, err);
-    };
-    let has_more_o5 = make_output(rt, output, &files, stdin, out, err)?;
+    let has_more_o5 = make_output(rt, output, files, stdin, out, err)?;
     let more = format!(in rt.alloc(); "{}", hint::MORE_O5).ok();
     hint::advise(more.filter(|_| has_more_o5), err, output.flags.hints);
     let other = hint::after_output(rt.alloc(), output.name, output.asked.format);
@@ -149,18 +165,35 @@ fn print_explanation<'a, O: Write>(
     alloc: Global,
     reason: Option<&'a str>,
     out: &mut O,
-) -> Result<(), Refusal<'a>> {
+) -> Result<u8, Refusal<'a>> {
     let reason = reason.ok_or(Refusal::NoCommand)?;
-    if reason == ALL_REASONS {
-        return print(out, &format!(in alloc; "{ReasonList}")?);
+    let text = if reason == ALL_REASONS {
+        format!(in alloc; "{ReasonList}")?
+    } else {
+        let row = Explanation::named(reason).ok_or(Refusal::NotReason { reason })?;
+        format!(in alloc; "{row}.\n{}\n", row.remedy)?
+    };
+    print(out, &text)?;
+    Ok(0)
+}
+
+/// Reports a refusal, if there is one, and returns the exit status.
+fn status_of<E: Write + IsTerminal>(
+    rt: &impl Host,
+    outcome: Result<u8, Refusal<'_>>,
+    err: &mut E,
+    hints: bool,
+) -> u8 {
+    match outcome {
+        Ok(status) => status,
+        Err(refusal) => hint::report(rt, &refusal, err, hints),
     }
-    let row = Explanation::named(reason).ok_or(Refusal::NotReason { reason })?;
-    print(out, &format!(in alloc; "{row}.\n{}\n", row.remedy)?)
 }
 
 /// Prints help or the version.
-fn print_help<O: Write>(alloc: Global, help: &Error, out: &mut O) -> Result<(), Refusal<'static>> {
-    print(out, &format!(in alloc; "{help}")?)
+fn print_help<O: Write>(alloc: Global, help: &Error, out: &mut O) -> Result<u8, Refusal<'static>> {
+    print(out, &format!(in alloc; "{help}")?)?;
+    Ok(0)
 }
 
 /// Prints a text, which has its own line feeds.

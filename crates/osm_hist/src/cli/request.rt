@@ -15,13 +15,11 @@ use std::io::Read;
 pub(super) struct Request<'a> {
     /// The file that is made from the files, or none if they are checked.
     pub(super) output: Option<OutputRequest<'a>>,
+    /// The files. If a list has their names, there are none until the list is read.
+    pub(super) files: InputFiles<'a>,
     pub(super) flags: Flags,
-    /// The names of the files in the arguments.
-    names: &'a [&'a str],
-    /// The list that has the names of the files instead, if there is one.
-    list: Option<NameList<'a>>,
-    /// How OPL files must end.
-    end: EndRule,
+    /// The argument that names the list of files, if there is one.
+    list: Option<&'a str>,
 }
 
 /// The arguments of a command that makes a file.
@@ -69,62 +67,80 @@ impl Flags {
 }
 
 impl<'a> Request<'a> {
-    /// The request that the arguments of the command `name` make. The list of files is read, if there is one. `clap`
-    /// has checked that all required arguments are given.
+    /// The request that the arguments of the command `name` make. `clap` has checked that all required arguments are
+    /// given.
     ///
     /// # Errors
     ///
-    /// A mistake in the times or in the shard, or a list that can't be read.
-    pub(super) fn of_matches<I: Read + Drop>(
-        rt: &impl Host,
+    /// A mistake in the times, in the shard or in the names of the files, or out of memory.
+    pub(super) fn of_matches(
+        alloc: Global,
         name: &str,
-        matches: &'a ArgMatches<'a>,
-        stdin: &mut Option<I>,
+        matches: &ArgMatches<'a>,
     ) -> Result<Request<'a>, Refusal<'a>> {
+        let list = matches.get_str(LIST);
         let end = EndRule::required(matches.get_flag("whole"), matches.get_flag("ended"));
         let output = match Command::named(name) {
             Some(command) => Some(OutputRequest::of_matches(command, matches, end)?),
             None => None,
         };
-        let list = match matches.get_str(LIST) {
-            Some(arg) => Some(NameList::read(rt, arg, output.as_ref(), stdin)?),
-            None => None,
-        };
         let names = matches.get_strs("files").or(matches.get_strs(FILE_OR_TIME));
+        let names = match names {
+            Some(names) if list.is_none() => Vec::from_slice(alloc, names)?,
+            _ => Vec::new(alloc),
+        };
+        refuse_twice(names.as_slice(), false)?;
+        let files = InputFiles {
+            names,
+            list: None,
+            end,
+            keeps_empty: matches.get_str("shard").is_some(),
+        };
         Ok(Request {
             output,
+            files,
             flags: Flags::of_matches(matches),
-            names: names.unwrap_or(&[]),
             list,
-            end,
         })
     }
 
-    /// The files that the request names, itself or by its list.
+    /// The request with the names in its list of files. `text` is the text of the list, and `id` its identity.
     ///
     /// # Errors
     ///
-    /// A mistake in the list, standard input more than once, or out of memory.
-    pub(super) fn files(&'a self, alloc: Global) -> Result<InputFiles<'a>, Refusal<'a>> {
-        let end = self.end;
-        let (names, list, is_used) = match &self.list {
-            Some(list) => (list.names(alloc, end)?, list.id, list.arg == STANDARD),
-            None => (Vec::from_slice(alloc, self.names)?, None, false),
+    /// A mistake in the list, or out of memory.
+    pub(super) fn with_list(
+        self,
+        alloc: Global,
+        text: &'a str,
+        id: Option<FileId>,
+    ) -> Result<Request<'a>, Refusal<'a>> {
+        let Some(list) = self.list else {
+            return Ok(self);
         };
-        let most = usize::from(!is_used);
-        if names.iter().filter(|name| **name == STANDARD).count() > most {
-            return Err(Refusal::StandardInputTwice);
-        }
-        Ok(InputFiles {
+        // A list of lines, which has no NUL, would be read as one long name.
+        let is_lines = text.contains('\n') && !text.contains('\0');
+        let must_end = is_lines || self.files.end != EndRule::Any;
+        let (name, read) = (input_name(list), read_names(alloc, text, must_end));
+        let names = read.map_err(|fault| Refusal::of_list(fault, name))?;
+        refuse_twice(names.as_slice(), list == STANDARD)?;
+        let files = InputFiles {
             names,
-            list,
-            end,
-            keeps_empty: self
-                .output
-                .as_ref()
-                .is_some_and(|output| output.asked.shard.is_some()),
-        })
+            list: id,
+            end: self.files.end,
+            keeps_empty: self.files.keeps_empty,
+        };
+        Ok(Request { files, ..self })
     }
+}
+
+/// Refuses standard input in `names` more than once, and at all if it is used up.
+fn refuse_twice<'a>(names: &[&str], is_used: bool) -> Result<(), Refusal<'a>> {
+    let most = usize::from(!is_used);
+    if names.iter().filter(|name| **name == STANDARD).count() > most {
+        return Err(Refusal::StandardInputTwice);
+    }
+    Ok(())
 }
 
 impl<'a> OutputRequest<'a> {
@@ -168,51 +184,6 @@ impl<'a> OutputRequest<'a> {
     }
 }
 
-/// A list of the names of files, each ended by NUL.
-#[derive(Drop)]
-pub(super) struct NameList<'a> {
-    /// The argument that names it.
-    arg: &'a str,
-    text: String,
-    /// The identity of its file, if it is known.
-    id: Option<FileId>,
-}
-
-impl<'a> NameList<'a> {
-    /// Reads the list that `arg` names; `-` is standard input. A list that is OUT, or has the name of OUT.part, is
-    /// refused.
-    fn read<I: Read + Drop>(
-        rt: &impl Host,
-        arg: &'a str,
-        output: Option<&OutputRequest<'a>>,
-        stdin: &mut Option<I>,
-    ) -> Result<NameList<'a>, Refusal<'a>> {
-        let target = Target::of_arg(rt, output.map_or(STANDARD, |output| output.name));
-        target.refuse_part(&[arg])?;
-        let name = input_name(arg);
-        let (bytes, id) = if arg != STANDARD {
-            let (bytes, file) = read_file(rt, arg)?;
-            (bytes, FileId::of_known(file.metadata()))
-        } else if let Some(mut stream) = stdin.take() {
-            (read_input(rt, &mut stream)?, FileId::of_input(rt))
-        } else {
-            return Err(Refusal::CannotRead { name, code: None });
-        };
-        target.refuse_list(rt, id)?;
-        let text = String::from_utf8(bytes).map_err(|_| Refusal::ListNotUtf8 { name })?;
-        Ok(NameList { arg, text, id })
-    }
-
-    /// The names in the list. `end` is how OPL files must end.
-    fn names(&'a self, alloc: Global, end: EndRule) -> Result<Vec<&'a str>, Refusal<'a>> {
-        let text = self.text.as_str();
-        // A list of lines, which has no NUL, would be read as one long name.
-        let is_lines = text.contains('\n') && !text.contains('\0');
-        let names = read_names(alloc, text, is_lines || end != EndRule::Any);
-        names.map_err(|fault| Refusal::of_list(fault, input_name(self.arg)))
-    }
-}
-
 /// The input files of a command.
 #[derive(Drop)]
 pub(super) struct InputFiles<'a> {
@@ -224,4 +195,34 @@ pub(super) struct InputFiles<'a> {
     /// Whether an empty file is read as a regular file, and not as a stream. A file of `/proc` has bytes, though its
     /// size is 0.
     pub(super) keeps_empty: bool,
+}
+
+/// Reads the list of files that the request names, where `-` is standard input. The list has the names, each ended by
+/// NUL. Returns its text, and the identity of its file if that is known. Without a list the text is empty. A list that
+/// is OUT, or has the name of OUT.part, is refused.
+pub(super) fn read_list<'a, I: Read + Drop>(
+    rt: &impl Host,
+    request: &Request<'a>,
+    stdin: &mut Option<I>,
+) -> Result<(String, Option<FileId>), Refusal<'a>> {
+    let Some(arg) = request.list else {
+        return Ok((String::new(rt.alloc()), None));
+    };
+    if let Some(output) = &request.output {
+        Target::of_arg(rt, output.name).refuse_part(&[arg])?;
+    }
+    let name = input_name(arg);
+    let (bytes, id) = if arg != STANDARD {
+        let (bytes, file) = read_file(rt, arg)?;
+        (bytes, FileId::of_known(file.metadata()))
+    } else if let Some(mut stream) = stdin.take() {
+        (read_input(rt, &mut stream)?, FileId::of_input(rt))
+    } else {
+        return Err(Refusal::CannotRead { name, code: None });
+    };
+    if let Some(output) = &request.output {
+        Target::of_arg(rt, output.name).refuse_list(rt, id)?;
+    }
+    let text = String::from_utf8(bytes).map_err(|_| Refusal::ListNotUtf8 { name })?;
+    Ok((text, id))
 }
