@@ -1,9 +1,5 @@
-//! The straight reader: a line whose fields have the usual order and form, read from left to right.
-//!
-//! Why: nearly all lines of real files have this form. A merge of other lines takes 1.7 times the instructions.
-//! Assumes: nothing; it returns an `Option` and never a reason.
-//! Otherwise: it returns `None`, also when out of memory, and the general reader reads the line.
-//! Compared by: `canonical_lines_are_read_straight_on`, `other_lines_are_left`, `faulty_lines_are_left`.
+//! The straight reader: a line whose fields have the usual order and form, read from left to right. It refuses no line:
+//! the general reader reads what it leaves.
 ghost use Rattle.std.specs.Prelude.{◌≡◌, ◌∷◌, ◌++◌, true, Ok, Some, IfSome};
 ghost use Rattle.std.specs.List.{list_all};
 ghost use Rattle.osm_model.specs.declared.body.Body.TheVariants.{Deleted};

@@ -1,12 +1,7 @@
 //! Heads that are known to be equal.
 //!
-//! Two heads that play a game and are equal tie. Once one of the two was taken, the other one is known to repeat it.
-//!
-//! Why: a known repeat is dropped without another comparison. A merge of two files with the same versions takes 0.95 to
-//! 0.98 of the time.
-//! Assumes: neither head of the tie was replaced since their game.
-//! Otherwise: the version is compared with the pending one.
-//! Compared by: `order_and_repetition_make_no_difference` and `comparison_bounds`.
+//! Two heads that play a game and are equal tie. Once one of the two was taken, the other one is known to repeat it,
+//! and is dropped without another comparison.
 ghost use Rattle.std.specs.Prelude.{◌≡◌, None, Some};
 ghost use Rattle.std.specs.Bool.{OnTrue};
 ghost use Rattle.osm_merge.specs.Repeats as spec;

@@ -1,10 +1,4 @@
-//! Versions taken into a history, without a copy.
-//!
-//! Why: a search finds the index of each version that is taken, and the versions before it move without a comparison.
-//! Taking 10,000 versions into 1,000,000 takes 21 ms, and 57 ms if each held version is compared.
-//! Assumes: both histories ascend. The search saves most if the other history is small.
-//! Otherwise: if there are few held versions for each one that is taken, each is compared.
-//! Compared by: `a_history_absorbs_another` and `a_snapshot_absorbs_another_history`.
+//! Versions taken into a history, without a copy. A search finds the index of each, unless they are many.
 ghost use Rattle.std.specs.Prelude.{◌≡◌, ◌+◌, ◌≤◌, ◌++◌, take, drop, MatchResult, vec_len, vec_capacity};
 ghost use Rattle.std.specs.List.Sorted.{IsStrictlySortedBy};
 ghost use Rattle.std.specs.VecDeque.{deque_len};

@@ -1,10 +1,5 @@
-//! The next version of each source, and the tournament that finds the least of them.
-//!
-//! Why: after a version of k sources was taken, about log k games are played, while a search would look at k heads. A
-//! merge of 128 files takes 1.10 times the instructions of a merge of two files.
-//! Assumes: the head of one source changed since the last games.
-//! Otherwise: all games are played, as at the start (`build`).
-//! Compared by: `order_and_repetition_make_no_difference` and `comparison_bounds`.
+//! The next version of each source, and the tournament that finds the least of them. After a version of k sources was
+//! taken, about log k games are played, while a search would look at k heads.
 ghost use Rattle.std.specs.Prelude.{◌≡◌, ◌+◌, ◌-◌, ◌/◌, ◌<◌, ◌≤◌, ◌^◌, ℕ, None, Some};
 ghost use Rattle.std.specs.Prelude.{length, slice_index, slice_index_or, slice_set, IfOk, IfErr};
 ghost use Rattle.std.specs.Bool.{OnTrue};

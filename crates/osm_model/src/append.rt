@@ -1,11 +1,6 @@
-//! Canonical lines, appended to a vector.
-//!
-//! Why: `LineBytes` gives the same bytes from left to right, but takes more than twice as long. This module appends a
-//! line in stretches: it makes each stretch in a buffer, from its end to its start, and appends it at once.
-//! Assumes: nothing.
-//! Otherwise: always used. The stretches are the fields before the user name, each reference or few of them, the object
-//! of a member and a location. Texts are appended from left to right.
-//! Compared by: `both_writers_write_one_line` (opl_line).
+//! Canonical lines, appended to a vector in stretches. Each stretch is made in a buffer, from its end to its start:
+//! the fields before the user name, each reference or few of them, the object of a member, a location. Texts are
+//! appended from left to right.
 ghost use Rattle.std.specs.Prelude.{◌≡◌, ◌++◌, ◌∷◌, ◌≤◌, ℕ, List, codes, length, drop, IfOk, OnOk};
 ghost use Rattle.std.specs.Str.{chars};
 ghost use Rattle.osm_model.specs.Joined.{join_with};

@@ -1,10 +1,4 @@
-//! Short texts of which each character is written raw.
-//!
-//! Why: one copy appends such a text to a line. A merge from o5m to OPL then takes 0.94 to 0.96 of the time.
-//! Assumes: the text has at most 24 bytes, and its characters are raw. The straight OPL reader knows that of the texts
-//! that it reads (`Text::from_raw`), and `Text::from_tested_str` tests it.
-//! Otherwise: the text is escaped character by character.
-//! Compared by: `a_test_changes_no_text` and `both_writers_write_users_that_are_plain`.
+//! Short texts of which each character is written raw: at most 24 bytes. One copy appends such a text to a line.
 ghost use Rattle.std.specs.Prelude.{◌≡◌, ◌≤◌, length};
 ghost use Rattle.osm_model.specs.Escape.{IsPlain};
 

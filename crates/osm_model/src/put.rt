@@ -1,11 +1,6 @@
 //! Writes parts of a line into `buffer`, so that they end at the offset `end`. Each function returns the offset where
-//! its part begins.
-//!
-//! Why: a number is written from its last digit to its first. The offset where the bytes begin is a parameter and a
-//! result, so it stays in a register. As a field of a struct it was stored and loaded 25 times for a line.
-//! Assumes: `buffer` has enough bytes before `end` for the longest form of the part.
-//! Otherwise: nothing; `append` appends the texts, which may be longer.
-//! Compared by: `both_writers_write_one_line` (opl_line).
+//! its part begins. A number is written from its last digit to its first. The offset is a parameter and a result, so
+//! that it stays in a register.
 ghost use Rattle.std.specs.Prelude.{◌≡◌, ◌++◌, ◌+◌, ◌/◌, ◌%◌, ◌∷◌, ◌≤◌, ◌<◌, ◌^◌, length, drop, replicate};
 ghost use Rattle.std.specs.Option.{ForSome};
 ghost use Rattle.osm_model.specs.Append.{head_text, location_text};

@@ -1,10 +1,4 @@
-//! Versions with their ranks.
-//!
-//! Why: versions are scattered in memory, and ranks are adjacent. A sort of lines in any order takes 0.62 to 0.73 of
-//! the time.
-//! Assumes: the rank is that of the version, which is an invariant of `Ranked`.
-//! Otherwise: if two ranks are equal, the versions are compared.
-//! Compared by: `versions_with_ranks_are_ordered`.
+//! Versions with their ranks, which are adjacent in memory while the versions are scattered.
 ghost use Rattle.std.specs.Prelude.{◌≡◌, refl, IfOk};
 ghost use Rattle.std.specs.Ordering.{eq_by_cmp, as_partial_cmp};
 ghost use Rattle.std.specs.Cmp.{eq_by_cmp_equiv, partial_equiv_from_equiv, partial_order_from_agreeing_total};

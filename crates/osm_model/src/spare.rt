@@ -1,11 +1,5 @@
-//! Memory of versions that are not needed any more. Later versions are made in it.
-//!
-//! Why: to allocate and free a block costs as much as to read three numbers, and a merge drops one version for each
-//! that it reads.
-//! Assumes: nothing about the memory; a version made in it has the same data as one made in new memory.
-//! Otherwise: if no version was given back, new memory is allocated. A long list of which less than a quarter was used
-//! is freed.
-//! Compared by: `memory_of_a_version_is_used_again`.
+//! Memory of versions that are not needed any more. Later versions are made in it. A long list of which less than a
+//! quarter was used is freed.
 ghost use Rattle.std.specs.Prelude.{◌≡◌, []};
 
 use crate::{Body, Member, Tag, Version};

@@ -1,11 +1,4 @@
-//! Numbers in groups of seven bits.
-//!
-//! Why: most numbers have one or two groups. Straight code for few groups is one of three changes that together raised
-//! 10 million nodes a second to 18 to 25 million. One test for a difference of 0 saves 1.0 percent of the instructions
-//! of a merge from o5m to o5m.
-//! Assumes: nothing; the straight code tests the length before each group.
-//! Otherwise: the loop of `read_groups` reads a number of more than five groups, or one that isn't ended.
-//! Compared by: `reads_numbers_at_their_limits`.
+//! Numbers in groups of seven bits. A number of at most five groups is read by straight code, others by a loop.
 ghost use Rattle.std.specs.Prelude.{◌≡◌, ◌<◌, length, pos, Ok, IfOk, IfSome};
 ghost use Rattle.o5_codec.specs.Results.{O5Gives};
 ghost use Rattle.o5_codec.specs.Number.{number_at, signed_at, signed_of};

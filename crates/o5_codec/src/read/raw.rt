@@ -1,10 +1,4 @@
-//! Strings that a line has as they are.
-//!
-//! Why: most strings that are stored have only characters that OPL leaves raw. One look at each byte shows that such a
-//! string is ASCII, so UTF-8, and that its text is plain.
-//! Assumes: each byte of the string is a raw character by itself.
-//! Otherwise: `text` tests the string.
-//! Compared by: `reads_texts`, `takes_strings_by_what_they_mean`.
+//! Strings whose characters are each raw, as most are. One look at each byte shows that; `text` tests the others.
 ghost use Rattle.std.specs.Prelude.{◌≡◌, IfSome, Ok};
 ghost use Rattle.std.specs.List.{list_all};
 ghost use Rattle.std.specs.Str.{chars};

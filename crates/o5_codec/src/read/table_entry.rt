@@ -1,11 +1,5 @@
-//! The stored entries, which references name.
-//!
-//! Why: references name most entries again and again. A reference then copies a user id or a text, and no string is
-//! read or tested for UTF-8 again. With entries of 96 bytes instead of 136, a version whose names are drawn as in an
-//! extract takes 1,110 instructions to read instead of 1,259.
-//! Assumes: a meaning agrees with its bytes, which is an invariant of `TableEntry`.
-//! Otherwise: an entry whose strings mean something else is read from its bytes, like an inline one.
-//! Compared by: `takes_strings_by_what_they_mean`.
+//! The stored entries, which references name. An entry with a meaning keeps the user id or the text, so a reference to
+//! it reads no string again.
 ghost use Rattle.std.specs.Prelude.{◌≡◌, IfOk};
 ghost use Rattle.o5_codec.specs.Results.{O5Reads, and_added};
 ghost use Rattle.o5_codec.specs.Text.{tag_of, user_of, and_user};

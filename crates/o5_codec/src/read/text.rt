@@ -1,10 +1,4 @@
-//! Texts in the strings of data sets.
-//!
-//! Why: nearly all strings are ASCII, and ASCII is UTF-8. The test of UTF-8 took a twentieth of the time of reading a
-//! line, and more of that of reading a data set.
-//! Assumes: nothing; `is_ascii` looks at every byte.
-//! Otherwise: `simdutf8` tests a string that has another byte.
-//! Compared by: `reads_texts`.
+//! Texts in the strings of data sets. A string of ASCII isn't tested for UTF-8.
 ghost use Rattle.std.specs.Prelude.{◌≡◌, Ok, IfOk, IfSome, encode_utf8_all};
 ghost use Rattle.std.specs.Str.{chars};
 ghost use Rattle.o5_codec.specs.Results.{O5Gives, O5Reads, and_added};

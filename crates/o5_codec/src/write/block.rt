@@ -1,11 +1,4 @@
-//! Up to 128 bytes of a data set, filled in place.
-//!
-//! Why: a data set has many numbers of one to four bytes. One test of room for each number, and straight code for up to
-//! four groups, save 2.3 percent of the instructions of a merge from o5m to o5m.
-//! Assumes: each call has room for the bytes that it appends; `make_room` tests for it.
-//! Otherwise: a full block moves its bytes to the end of a vector, `front`. A loop writes a number of more than four
-//! groups.
-//! Compared by: `writes_numbers_at_their_limits`.
+//! Up to 128 bytes of a data set, filled in place. One test of room covers many short numbers.
 ghost use Rattle.std.specs.Prelude.{◌≡◌, ◌≤◌, ◌<◌, ◌+◌, ◌++◌, ◌∷◌, [], length, drop, OnOk};
 ghost use Rattle.o5_codec.specs.Shortest.{shortest_number};
 

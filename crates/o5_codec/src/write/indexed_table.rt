@@ -1,10 +1,4 @@
-//! The string table of a segment that is written.
-//!
-//! Why: a table has up to 15,000 entries, and a search of it would compare each. The hash map finds an entry by its
-//! hash. Before that the cache of `slot` finds most entries, which saves half of the cost of writing a version.
-//! Assumes: the map has exactly the entries of the ring, each with its number (`IsTable`).
-//! Otherwise: an entry that the map doesn't have is written inline, and stored in the ring and in the map.
-//! Compared by: `refers_as_a_plain_search_does`.
+//! The string table of a segment that is written. A hash map finds an entry among up to 15,000.
 ghost use Rattle.std.specs.Prelude.{◌≡◌, ◌∷◌, ◌^◌, ◌++◌, [], take, IfOk, OnOk, None, Some, IfSome};
 ghost use Rattle.o5_codec.specs.Table.{table_limit};
 ghost use Rattle.std.specs.HashMap as hash;

@@ -1,12 +1,5 @@
-//! A cache of the numbers in the hash map of the writer's string table.
-//!
-//! Why: the map hashes all bytes of an entry, and the entry has to be filled before. The cache finds an entry by a few
-//! of its bytes. Writing a version takes 704 instructions instead of 1,405, which is 30 percent of a merge from o5m to
-//! o5m.
-//! Assumes: nothing. Several entries share a slot, and an entry that leaves the table remains in its slot, so the table
-//! compares the entry that the cache names. No byte that is written depends on the cache.
-//! Otherwise: if the entry is another one, the table searches its map.
-//! Compared by: `refers_as_a_plain_search_does`.
+//! A cache of the numbers in the hash map of the writer's string table. The table compares the entry that the cache
+//! names, and searches its map if it is another one, so no byte that is written depends on the cache.
 use crate::write::string_key::StringKey;
 use osm_model::Memory;
 use std::alloc::Global;

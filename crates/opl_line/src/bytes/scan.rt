@@ -1,9 +1,4 @@
-//! A search for bytes of a class, many at a time.
-//!
-//! Why: lines end and are cut at bytes of a class, and one instruction compares 8 to 64 bytes.
-//! Assumes: at least `LANES` bytes are left.
-//! Otherwise: the last bytes are compared one by one.
-//! Compared by: `line_ends_are_found`.
+//! A search for bytes of a class, many at a time; the last ones, fewer than `LANES`, one by one.
 ghost use Rattle.std.specs.Prelude.{◌≡◌, ◌+◌, ◌<◌, ◌≤◌, ℕ, Bool, not, length, position};
 ghost use Rattle.std.specs.List.{prefix_len};
 ghost use Rattle.std.specs.Simd.Lanes.{chunk};

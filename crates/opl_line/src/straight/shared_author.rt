@@ -1,9 +1,4 @@
-//! The changeset, time and user that lines of versions uploaded together share.
-//!
-//! Why: neighbours in a file were often uploaded together. A merge of the real extract takes 0.87 of the time.
-//! Assumes: the line continues with the bytes that the last upload had after the visibility, and then a blank.
-//! Otherwise: the fields are parsed one by one.
-//! Compared by: `neighbours_are_read_as_single_lines`.
+//! The changeset, time and user that lines of versions uploaded together share. They are parsed once.
 ghost use Rattle.std.specs.Prelude.{◌≡◌, ◌++◌, IfSome};
 ghost use Rattle.opl_line.specs.Straight.{IsAuthored};
 ghost use Rattle.opl_line.specs.AuthorFields.{AreFieldsOf};
