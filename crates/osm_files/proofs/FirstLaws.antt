@@ -1,4 +1,4 @@
--- The key of the first version of lines from an offset on.
+-- The object that the first of some lines names.
 use Rattle.std.proofs.Common.{◌≡◌, ◌⊎◌, inl, inr, ⊎_elim, ℕ, zero, suc, ◌+◌, ◌-◌, ◌≤◌, ◌<◌, true, false, not, cond, min}
 use Rattle.std.proofs.Common.{List, [], ◌∷◌, ◌++◌, length, take, drop, filter, position, get_or, refl, sym, ap, ◌∙◌, subst, arith}
 use Rattle.std.proofs.Common.{Option, Some, None, IfSome, Result, Ok, Err, option_map, append_assoc, length-drop, add-one}
@@ -7,8 +7,8 @@ use Rattle.std.proofs.lemmas.Bool.{cases_lt}
 use Rattle.std.proofs.lemmas.List.{drop-drop, drop-append-le}
 use Rattle.std.proofs.lemmas.List.Elements.{filter-append}
 use Rattle.osm_model.specs.declared.object.Key.{Key}
+use Rattle.osm_model.specs.declared.object.Object.{Object}
 use Rattle.osm_model.specs.Data.{VersionData}
-use Rattle.osm_model.specs.Order.{key_of}
 use Rattle.osm_model.specs.Pairwise.{Pairwise}
 use Rattle.opl_line.specs.Delimiter.{is_line_end, with_byte, split_first, pieces_of}
 use Rattle.opl_line.specs.Reading.{is_skipped}
@@ -16,18 +16,20 @@ use Rattle.opl_line.specs.Spells.{Spells, SpellsNothing}
 use Rattle.opl_line.proofs.CutLaws.{cut_split}
 use Rattle.osm_files.specs.declared.fault.Fault.{Fault}
 use Rattle.osm_files.specs.declared.lines.Front.{Front}
-use Rattle.osm_files.specs.declared.lines.Front.TheVariants.{Keyed, Skipped}
-use Rattle.osm_files.specs.LineKey.{first_line, IsKeyOf, IsKeyOfFront}
+use Rattle.osm_files.specs.declared.lines.Front.TheVariants.{Named, Skipped}
+use Rattle.osm_files.specs.LineKey.{first_line, named_object, IsKeyOfFront}
 use Rattle.osm_files.specs.Lines.{after_line, line_size, line_start_from, bytes_between, IsLineStart, IsFirstOf, IsFirstIn}
-use Rattle.osm_files.specs.Lines.{IsFirstBetween, SpellsAlso, AreSkipped, IsFront, IsLineRead}
+use Rattle.osm_files.specs.Lines.{lines_of, named_first, first_named, object_of_first}
+use Rattle.osm_files.specs.Lines.{IsFirstBetween, HaveSameLines, AreSkipped, IsFront, IsLineRead}
 use Rattle.osm_files.specs.Opl.{is_read, OplFile}
 use Rattle.osm_files.specs.Position.{fault_of}
 use Rattle.osm_files.specs.ReadAt.{AreAt}
 use Rattle.osm_files.specs.Stream.{Verdict}
 use Rattle.osm_files.specs.Units.{InOpl, units}
 use Rattle.osm_files.specs.Verdict.{versions_of}
-use Rattle.osm_files.proofs.JoinLaws.{lines_of}
 use Rattle.osm_files.proofs.KeyOrderLaws.{front_line, ended_lines, no_lines}
+use Rattle.osm_files.proofs.LineKeyLaws.{spelled_names}
+use Rattle.osm_files.proofs.LineStarts.{size_some}
 use Rattle.osm_files.proofs.UnitLaws.{ReadsAs, opl_reads}
 
 reads_lines : (offset : ℕ) (bytes : List ℕ) → ReadsAs (units None InOpl offset bytes) (OplFile bytes)
@@ -67,27 +69,32 @@ first_lines bytes =
     ∙ ap (λ ls. filter is_read (first_line bytes ∷ []) ++ ls) (after_split bytes)
 
 -- lines after a line that is skipped
-after_skipped : (line : List ℕ) (more : List (List ℕ)) (versions : List VersionData) → is_skipped line ≡ true
-    → Pairwise Spells (filter is_read (line ∷ []) ++ more) versions → Pairwise Spells more versions
-after_skipped line more versions skipped file =
-    subst (λ t. Pairwise Spells (cond (not t) (line ∷ []) [] ++ more) versions) skipped file
+after_skipped : (line : List ℕ) (more : List (List ℕ)) → is_skipped line ≡ true → filter is_read (line ∷ []) ++ more ≡ more
+after_skipped line more skipped = ap (λ t. cond (not t) (line ∷ []) [] ++ more) skipped
 
-skips_line : (bytes : List ℕ) → is_skipped (first_line bytes) ≡ true → SpellsAlso bytes (after_line bytes)
-skips_line bytes skipped versions file =
-    after_skipped (first_line bytes) (lines_of (after_line bytes)) versions skipped
-    (subst (λ ls. Pairwise Spells ls versions) (first_lines bytes) file)
+skips_line : (bytes : List ℕ) → is_skipped (first_line bytes) ≡ true → HaveSameLines bytes (after_line bytes)
+skips_line bytes skipped = first_lines bytes ∙ after_skipped (first_line bytes) (lines_of (after_line bytes)) skipped
 
-keyed : (line : List ℕ) (key : Key) (more : List (List ℕ)) (versions : List VersionData)
-    → ((v : VersionData) → Spells line v → key_of v ≡ key) → Pairwise Spells (line ∷ more) versions → IsFirstOf (Some key) versions
-keyed line key more [] is file = absurd file
-keyed line key more (v ∷ versions) is file = ap Some (sym (is v file.0))
+-- The first line, if it isn't skipped, names the first object.
+line_first : (bytes : List ℕ) (object : Object) → is_skipped (first_line bytes) ≡ false
+    → named_object (first_line bytes) ≡ Some object → first_named bytes ≡ Some object
+line_first bytes object kept names =
+    let line = first_line bytes in
+    ap named_first (first_lines bytes)
+    ∙ ap (λ t. named_first (cond (not t) (line ∷ []) [] ++ lines_of (after_line bytes))) kept
+    ∙ names
 
--- The key of the first line is the key of the first version.
-key_first : (Fails : Type 0) (bytes : List ℕ) (key : Key) → IsKeyOf (first_line bytes) key → IsFirstIn Fails bytes (Ok (Some key))
-key_first Fails bytes key (kept, is) = λ versions file.
-    keyed (first_line bytes) key (lines_of (after_line bytes)) versions is
-    (subst (λ t. Pairwise Spells (cond (not t) (first_line bytes ∷ []) [] ++ lines_of (after_line bytes)) versions) kept
-    (subst (λ ls. Pairwise Spells ls versions) (first_lines bytes) file))
+named_versions : (lines : List (List ℕ)) (versions : List VersionData) → Pairwise Spells lines versions
+    → named_first lines ≡ object_of_first versions
+named_versions [] [] h = refl
+named_versions [] (v ∷ versions) h = absurd h
+named_versions (line ∷ lines) [] h = absurd h
+named_versions (line ∷ lines) (v ∷ versions) h = spelled_names line v h.0
+
+-- The first object that lines name is that of the first version that they spell.
+pub first_of_versions : (bytes : List ℕ) (versions : List VersionData) → OplFile bytes versions
+    → first_named bytes ≡ object_of_first versions
+first_of_versions bytes versions file = named_versions (lines_of bytes) versions file
 
 nothing_first : (bytes : List ℕ) → SpellsNothing (first_line bytes) → (versions : List VersionData) → OplFile bytes versions → ⊥
 nothing_first bytes nothing versions file =
@@ -95,9 +102,6 @@ nothing_first bytes nothing versions file =
     (subst (λ ls. Pairwise Spells ls versions) (first_lines bytes) file)
 
 -- ---- lines at the front of bytes that are skipped
-pub nothing_skipped : (bytes : List ℕ) → AreSkipped bytes 0
-nothing_skipped bytes more versions file = file
-
 skipped_front : (size : ℕ) (bytes : List ℕ) → (size ≡ 0) ⊎ (get_or bytes 0 0 ≡ 35) → is_skipped (take size bytes) ≡ true
 skipped_front zero bytes either = refl
 skipped_front (suc n) bytes (inl none) = absurd (omega (arith, none))
@@ -107,15 +111,16 @@ skipped_front (suc n) (b ∷ bytes) (inr first) = ap (λ c. is_skipped (c ∷ ta
 -- One line more is skipped.
 pub skips_on : (bytes : List ℕ) (read size : ℕ) → AreSkipped bytes read → position is_line_end (drop read bytes) ≡ Some size
     → (size ≡ 0) ⊎ (get_or (drop read bytes) 0 0 ≡ 35) → AreSkipped bytes (read + (size + 1))
-skips_on bytes read size so_far found either more versions file =
+skips_on bytes read size so_far found either more =
     let rest : List ℕ = drop read bytes in
     let line = front_line rest size found in
     let whole : rest ++ more ≡ take size rest ++ line.end ∷ (drop (size + 1) rest ++ more) =
     ap (λ xs. xs ++ more) line.whole ∙ append_assoc (take size rest) (line.end ∷ drop (size + 1) rest) more in
-    let lines = ap lines_of whole ∙ ended_lines (take size rest) line.end (drop (size + 1) rest ++ more) line.ends line.one in
-    subst (λ (xs : List ℕ). OplFile (xs ++ more) versions) (drop-drop (size + 1) read bytes)
-    (after_skipped (take size rest) (lines_of (drop (size + 1) rest ++ more)) versions (skipped_front size rest either)
-    (subst (λ ls. Pairwise Spells ls versions) lines (so_far more versions file)))
+    so_far more
+    ∙ ap lines_of whole
+    ∙ ended_lines (take size rest) line.end (drop (size + 1) rest ++ more) line.ends line.one
+    ∙ after_skipped (take size rest) (lines_of (drop (size + 1) rest ++ more)) (skipped_front size rest either)
+    ∙ ap (λ xs. lines_of (xs ++ more)) (drop-drop (size + 1) read bytes)
 
 -- ---- the first line between two offsets
 take_after : (n : ℕ) (bytes : List ℕ) → after_line (take n bytes) ≡ take (n - line_size bytes) (drop (line_size bytes) bytes)
@@ -202,28 +207,21 @@ abbrev pub FrontOf : Type 0 → Option (List ℕ) → ℕ → ℕ → Result Fro
 FrontOf Fails known offset end result = IfSome known (λ all. end ≤ length all → IsFront Fails all offset end result)
 
 module _ (Fails : Type 0) (offset end : ℕ) (bytes : List ℕ) (few : length bytes ≤ end - offset) where
-  pub front_keyed : (known : Option (List ℕ)) (key : Key) → AreAt known offset bytes → IsKeyOfFront bytes key
-      → FrontOf Fails known offset end (Ok (Keyed key))
-  front_keyed None key at h = tt
-  front_keyed (Some all) key (rest, is_at) h = λ within.
+  pub front_named : (known : Option (List ℕ)) (key : Key) → AreAt known offset bytes → IsKeyOfFront bytes key
+      → FrontOf Fails known offset end (Ok (Named key.object))
+  front_named None key at h = tt
+  front_named (Some all) key (rest, is_at) h = λ within.
       let more = take (end - offset - length bytes) rest in
-      subst (λ xs. IsFirstIn Fails xs (Ok (Some key))) (sym (front_parts all offset end bytes rest is_at few))
-      (key_first Fails (bytes ++ more) key (h more))
+      let is = h more in
+      ap first_named (front_parts all offset end bytes rest is_at few) ∙ line_first (bytes ++ more) key.object is.kept is.names
 
   pub front_skipped : (known : Option (List ℕ)) (size : ℕ) → AreAt known offset bytes → size ≤ length bytes → AreSkipped bytes size
       → FrontOf Fails known offset end (Ok (Skipped (offset + size)))
   front_skipped None size at within h = tt
-  front_skipped (Some all) size (rest, is_at) within h = λ inside versions file.
-      subst (λ (xs : List ℕ). OplFile xs versions) (after_front all offset end size bytes rest is_at few within)
-      (h (take (end - offset - length bytes) rest) versions
-      (subst (λ (xs : List ℕ). OplFile xs versions) (front_parts all offset end bytes rest is_at few) file))
-
-size_some : (bytes : List ℕ) → 0 < length bytes → 1 ≤ line_size bytes
-size_some [] some = absurd (omega (arith, some))
-size_some (b ∷ bytes) some = elim (is_line_end b) as (λ t. 1 ≤ cond t 1 (suc (line_size bytes))) [
-  | true ↦ omega arith
-  | false ↦ omega arith
-]
+  front_skipped (Some all) size (rest, is_at) within h = λ inside.
+      ap lines_of (front_parts all offset end bytes rest is_at few)
+      ∙ h (take (end - offset - length bytes) rest)
+      ∙ ap lines_of (after_front all offset end size bytes rest is_at few within)
 
 comment_first : (bytes more : List ℕ) → 0 < length bytes → get_or bytes 0 0 ≡ 35 → is_skipped (first_line (bytes ++ more)) ≡ true
 comment_first [] more some first = absurd (omega (arith, some))
@@ -251,17 +249,17 @@ module _ (Fails : Type 0) (offset end next found : ℕ) (some : offset < end) wh
       let skipped : is_skipped (first_line lines) ≡ true =
       ap (λ xs. is_skipped (first_line xs)) (front_parts all offset end bytes rest is_at few)
       ∙ comment_first bytes (take (end - offset - length bytes) rest) long first in
-      subst (SpellsAlso lines) (after_next all offset end next some there) (skips_line lines skipped)
+      subst (HaveSameLines lines) (after_next all offset end next some there) (skips_line lines skipped)
 
   line_front : (all : List ℕ) → next ≡ min (line_start_from (offset + 1) all) end → (result : Result Front Fault)
       → IsLineRead Fails (first_line (bytes_between offset next all)) next result → IsFront Fails all offset end result
-  line_front all there (Ok (Keyed key)) h =
-      key_first Fails (bytes_between offset end all) key
-      (subst (λ xs. IsKeyOf xs key) (first_next all offset end next some there) h)
+  line_front all there (Ok (Named object)) (kept, names) =
+      let same = first_next all offset end next some there in
+      line_first (bytes_between offset end all) object (ap is_skipped (sym same) ∙ kept) (ap named_object (sym same) ∙ names)
   line_front all there (Ok (Skipped n)) (same, skipped) =
       let lines : List ℕ = bytes_between offset end all in
-      subst (λ m. SpellsAlso lines (bytes_between m end all)) (sym same)
-      (subst (SpellsAlso lines) (after_next all offset end next some there)
+      subst (λ m. HaveSameLines lines (bytes_between m end all)) (sym same)
+      (subst (HaveSameLines lines) (after_next all offset end next some there)
       (skips_line lines (ap is_skipped (sym (first_next all offset end next some there)) ∙ skipped)))
   line_front all there (Err fault) (inl failure) = inl failure
   line_front all there (Err fault) (inr nothing) =
@@ -278,49 +276,36 @@ module _ (Fails : Type 0) (offset end next found : ℕ) (some : offset < end) wh
       line_front all there result (h (omega (arith, there, within)))
 
 -- ---- the search
--- the lines from `offset` on spell what those from `start` on spell, if the file's bytes are known
+-- the lines from `start` on are those from `offset` on, but for lines that are skipped, if the file's bytes are known
 abbrev pub Passed : Option (List ℕ) → ℕ → ℕ → ℕ → Type 0
 Passed known start end offset = IfSome known (λ all. start ≤ end → end ≤ length all
-    → (offset ≤ end) × SpellsAlso (bytes_between start end all) (bytes_between offset end all))
+    → (offset ≤ end) × HaveSameLines (bytes_between start end all) (bytes_between offset end all))
 
 pub none_passed : (known : Option (List ℕ)) (start end : ℕ) → Passed known start end start
 none_passed None start end = tt
-none_passed (Some all) start end = λ rises within. (rises, λ versions file. file)
+none_passed (Some all) start end = λ rises within. (rises, refl)
 
 pub more_passed : (Fails : Type 0) (known : Option (List ℕ)) (start end offset next : ℕ) → Passed known start end offset
     → next ≤ end → FrontOf Fails known offset end (Ok (Skipped next)) → Passed known start end next
 more_passed Fails None start end offset next h few front = tt
-more_passed Fails (Some all) start end offset next h few front = λ rises within. (
-  few,
-  λ versions file. front within versions ((h rises within).1 versions file),
-)
+more_passed Fails (Some all) start end offset next h few front = λ rises within.
+    (few, (h rises within).1 ∙ front within)
 
-through : (Fails : Type 0) (lines others : List ℕ) (result : Result (Option Key) Fault) → SpellsAlso lines others
+through : (Fails : Type 0) (lines others : List ℕ) (result : Result (Option Object) Fault) → HaveSameLines lines others
     → IsFirstIn Fails others result → IsFirstIn Fails lines result
-through Fails lines others (Ok first) also h = λ versions file. h versions (also versions file)
-through Fails lines others (Err fault) also (inl failure) = inl failure
-through Fails lines others (Err fault) also (inr none) = inr (λ versions file. none versions (also versions file))
+through Fails lines others (Ok first) same h = subst (IsFirstOf first) (sym same) h
+through Fails lines others (Err fault) same (inl failure) = inl failure
+through Fails lines others (Err fault) same (inr none) =
+    inr (λ versions file. none versions (subst (λ ls. Pairwise Spells ls versions) same file))
 
-pub first_keyed : (Fails : Type 0) (known : Option (List ℕ)) (start end offset : ℕ) (key : Key) → Passed known start end offset
-    → FrontOf Fails known offset end (Ok (Keyed key)) → IsFirstBetween Fails known start end (Ok (Some key))
-first_keyed Fails None start end offset key h front = tt
-first_keyed Fails (Some all) start end offset key h front = λ short rises within.
-    through Fails (bytes_between start end all) (bytes_between offset end all) (Ok (Some key)) (h rises within).1 (front within)
+pub first_found : (Fails : Type 0) (known : Option (List ℕ)) (start end offset : ℕ) (object : Object) → Passed known start end offset
+    → FrontOf Fails known offset end (Ok (Named object)) → IsFirstBetween Fails known start end (Ok (Some object))
+first_found Fails None start end offset object h front = tt
+first_found Fails (Some all) start end offset object h front = λ rises within.
+    through Fails (bytes_between start end all) (bytes_between offset end all) (Ok (Some object)) (h rises within).1 (front within)
 
 pub first_refused : (Fails : Type 0) (known : Option (List ℕ)) (start end offset : ℕ) (fault : Fault) → Passed known start end offset
     → FrontOf Fails known offset end (Err fault) → IsFirstBetween Fails known start end (Err fault)
 first_refused Fails None start end offset fault h front = tt
-first_refused Fails (Some all) start end offset fault h front = λ short rises within.
+first_refused Fails (Some all) start end offset fault h front = λ rises within.
     through Fails (bytes_between start end all) (bytes_between offset end all) (Err fault) (h rises within).1 (front within)
-
-nothing_keyed : (versions : List VersionData) → OplFile [] versions → IsFirstOf None versions
-nothing_keyed [] file = refl
-nothing_keyed (v ∷ versions) file = absurd file
-
-pub first_none : (Fails : Type 0) (known : Option (List ℕ)) (start end offset : ℕ) → Passed known start end offset
-    → end ≤ offset → IsFirstBetween Fails known start end (Ok None)
-first_none Fails None start end offset h over = tt
-first_none Fails (Some all) start end offset h over = λ short rises within versions file.
-    let none : end - offset ≡ 0 = omega (arith, over) in
-    nothing_keyed versions
-    (subst (λ n. OplFile (take n (drop offset all)) versions) none ((h rises within).1 versions file))

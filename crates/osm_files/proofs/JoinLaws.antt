@@ -8,6 +8,7 @@ use Rattle.osm_model.specs.Pairwise.{Pairwise}
 use Rattle.opl_line.specs.Delimiter.{with_first_byte, split_all, is_line_end}
 use Rattle.opl_line.specs.Spells.{Spells}
 use Rattle.opl_line.proofs.CutLaws.{cut_split}
+use Rattle.osm_files.specs.Lines.{lines_of}
 use Rattle.osm_files.specs.Opl.{is_read, OplFile}
 use Rattle.osm_files.specs.O5.{end_byte, reset_byte, FilePart, part_bytes, O5File}
 use Rattle.osm_files.specs.SortedRun.{SplitAfterLine}
@@ -25,10 +26,6 @@ module _ (p : ℕ → Bool) (last : ℕ) (ends : p last ≡ true) (rest : List �
         | true ↦ ap (λ pieces. [] ∷ pieces) (cut_after front)
         | false ↦ ap (with_first_byte b) (cut_after front) ∙ rw (cut_split p front) refl
       ]
-
--- the lines that aren't skipped
-abbrev pub lines_of : List ℕ → List (List ℕ)
-lines_of bytes = filter is_read (split_all is_line_end bytes)
 
 module _ (last : ℕ) (ends : is_line_end last ≡ true) (front : List ℕ) where
   -- The lines of bytes that are joined at an end of a line are the lines of both parts.
@@ -51,14 +48,14 @@ pub record SplitVersions (front rest : List ℕ) (versions : List VersionData) :
   pub first : OplFile front earlier
   pub second : OplFile rest later
 
-record SplitPairs (xs more : List (List ℕ)) (versions : List VersionData) : Type 0 where
-  earlier : List VersionData
-  later : List VersionData
-  are : versions ≡ earlier ++ later
-  first : Pairwise Spells xs earlier
-  second : Pairwise Spells more later
+pub record SplitPairs (xs more : List (List ℕ)) (versions : List VersionData) : Type 0 where
+  pub earlier : List VersionData
+  pub later : List VersionData
+  pub are : versions ≡ earlier ++ later
+  pub first : Pairwise Spells xs earlier
+  pub second : Pairwise Spells more later
 
-split_pairs : (xs more : List (List ℕ)) (versions : List VersionData) → Pairwise Spells (xs ++ more) versions →
+pub split_pairs : (xs more : List (List ℕ)) (versions : List VersionData) → Pairwise Spells (xs ++ more) versions →
     SplitPairs xs more versions
 split_pairs [] more versions h = record { earlier = []; later = versions; are = refl; first = tt; second = h }
 split_pairs (x ∷ xs) more [] h = absurd h

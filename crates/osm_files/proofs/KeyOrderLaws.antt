@@ -27,12 +27,13 @@ use Rattle.osm_files.specs.Held.{Holds, HoldsSorted}
 use Rattle.osm_files.specs.KeyOrder.{CameAt, AreRising, Rise, IsNoFile, EndsLine, StepsOver, lines_to, StopsIn, ReadsLines, IsWithin}
 use Rattle.osm_files.specs.KeyOrder.{EndsLines, bytes_between, IsOrderOfLines, outcome_at, outcome_of}
 use Rattle.osm_files.specs.LineKey.{is_key_below, IsKeyOf, keys_rise}
+use Rattle.osm_files.specs.Lines.{lines_of}
 use Rattle.osm_files.specs.Opl.{is_read, OplFile}
 use Rattle.osm_files.specs.ReadAt.{AreAt, AreLast}
 use Rattle.osm_files.specs.Units.{InOpl, start_of}
 use Rattle.osm_files.proofs.ExtentLaws.{joined_at}
 use Rattle.osm_files.proofs.FileLaws.{Rises, rises_sorted}
-use Rattle.osm_files.proofs.JoinLaws.{lines_of, lines_after, split_ended}
+use Rattle.osm_files.proofs.JoinLaws.{lines_after, split_ended}
 
 -- ---- keys of versions in sequence
 rising_both : (before middle after : Option Key) (xs ys : List VersionData) → AreRising before xs middle → AreRising middle ys after
@@ -78,7 +79,7 @@ rising_file bytes after opl rise (held, h) =
     sorted_if_rising bytes held h after (rise h.versions lines)
 
 -- ---- lines in sequence
-ends_both : (xs ys : List ℕ) → EndsLine xs → EndsLine ys → EndsLine (xs ++ ys)
+pub ends_both : (xs ys : List ℕ) → EndsLine xs → EndsLine ys → EndsLine (xs ++ ys)
 ends_both xs ys h (inl none) = subst EndsLine (sym (ap (λ zs. xs ++ zs) none ∙ append-nil xs)) h
 ends_both xs ys h (inr (text, last, ends, is)) =
     inr (xs ++ text, last, ends, ap (λ zs. xs ++ zs) is ∙ sym (append_assoc xs text (last ∷ [])))
@@ -139,7 +140,7 @@ only_line line one =
     ap (filter is_read) (cut_split is_line_end line ∙ ap (λ s. s.0 ∷ pieces_of is_line_end s.1) one)
 
 -- The last line of a file, which may lack its end.
-last_rises : (before after : Option Key) (line : List ℕ) → IsOneLine line → StepsOver before line (Ok after) → Rise before line after
+pub last_rises : (before after : Option Key) (line : List ℕ) → IsOneLine line → StepsOver before line (Ok after) → Rise before line after
 last_rises before after line one step = λ versions file.
     step versions (subst (λ ls. Pairwise Spells ls versions) (only_line line one) file)
 
@@ -147,7 +148,7 @@ pub ended_lines : (line : List ℕ) (end : ℕ) (more : List ℕ) → is_line_en
     → lines_of (line ++ end ∷ more) ≡ filter is_read (line ∷ []) ++ lines_of more
 ended_lines line end more ends one = lines_after end ends line more ∙ ap (λ ls. ls ++ lines_of more) (only_line line one)
 
-line_rises : (before after : Option Key) (line : List ℕ) (end : ℕ) → is_line_end end ≡ true → IsOneLine line
+pub line_rises : (before after : Option Key) (line : List ℕ) (end : ℕ) → is_line_end end ≡ true → IsOneLine line
     → StepsOver before line (Ok after) → Rise before (line ++ end ∷ []) after
 line_rises before after line end ends one step = λ versions file.
     step versions (subst (λ ls. Pairwise Spells ls versions)
@@ -189,9 +190,9 @@ one_rises before line key (v ∷ []) above is file =
 -- A line with a key that isn't below the key before it.
 pub steps_on : (before : Option Key) (line : List ℕ) (key : Key) → IsKeyOf line key → is_key_below key before ≡ false
     → StepsOver before line (Ok (Some key))
-steps_on before line key (kept, is) above = λ versions file.
-    one_rises before line key versions above is
-    (subst (λ t. Pairwise Spells (cond (not t) (line ∷ []) []) versions) kept file)
+steps_on before line key is above = λ versions file.
+    one_rises before line key versions above is.spelled
+    (subst (λ t. Pairwise Spells (cond (not t) (line ∷ []) []) versions) is.kept file)
 
 -- A line that is skipped.
 pub steps_past : (before : Option Key) (line : List ℕ) → is_skipped line ≡ true → StepsOver before line (Ok before)
@@ -352,9 +353,13 @@ pub record RisesTo (all : List ℕ) (start end : ℕ) (lines : RisingLines) : Ty
   pub ends : lines.end < end → EndsLine (bytes_between all start lines.end)
   pub rise : Rise None (bytes_between all start lines.end) lines.last
 
+-- the lines of a file rise, if its bytes are known and it isn't shorter than `end`
+abbrev pub RisesIn : Option (List ℕ) → ℕ → ℕ → RisingLines → Type 0
+RisesIn known start end lines = IfSome known (λ all. end ≤ length all → RisesTo all start end lines)
+
 pub nothing_between : (all : List ℕ) (start end : ℕ) (lines : RisingLines) → lines ≡ (record { end = start; last = None })
-    → RisesTo all start end lines
-nothing_between all start end lines is =
+    → end ≤ length all → RisesTo all start end lines
+nothing_between all start end lines is long =
     let zero_it_is : lines.end - start ≡ 0 = omega (arith, ap (λ l. l.end) is) in
     let none : bytes_between all start lines.end ≡ [] = ap (λ n. take n (drop start all)) zero_it_is in
     record {
@@ -446,28 +451,28 @@ module _ (start end : ℕ) (lines : RisingLines) (window : List ℕ) (is_last : 
     (less : lines.end < end) (fits : lines.end + length window ≤ end) (all_there : is_last ≡ true → lines.end + length window ≡ end) where
   -- More lines rise.
   pub window_rises : (known : Option (List ℕ)) (read : RisingLines) → (is_last ≡ true → read.end ≡ lines.end + length window)
-      → IsWithin window lines read → AreAt known lines.end window → IfSome known (λ all. RisesTo all start end lines)
+      → IsWithin window lines read → AreAt known lines.end window → RisesIn known start end lines
       → ReadsLines window lines is_last (let r : Result RisingLines StopAt = Ok read in r)
-      → IfSome known (λ all. RisesTo all start end read)
+      → RisesIn known start end read
   window_rises None read all_read within at risen reads = tt
-  window_rises (Some all) read all_read within at risen reads =
-      rises_on all start end lines window at after_start less fits risen is_last read all_there all_read within reads
+  window_rises (Some all) read all_read within at risen reads = λ long.
+      rises_on all start end lines window at after_start less fits (risen long) is_last read all_there all_read within reads
 
   -- The search stops in the window.
   pub window_stops : (Fails : Type 0) (known : Option (List ℕ)) (stop : StopAt) → AreAt known lines.end window
-      → IfSome known (λ all. RisesTo all start end lines)
+      → RisesIn known start end lines
       → ReadsLines window lines is_last (let r : Result RisingLines StopAt = Err stop in r)
       → IfSome known (λ all. end ≤ length all → IsOrderOfLines Fails all start end (outcome_of stop))
   window_stops Fails None stop at risen reads = tt
   window_stops Fails (Some all) stop at risen reads = λ long.
-      stops_search all start end lines window at after_start less fits risen Fails is_last stop.offset stop.why all_there reads
+      stops_search all start end lines window at after_start less fits (risen long) Fails is_last stop.offset stop.why all_there reads
 
 -- All lines rise.
 pub all_risen : (known : Option (List ℕ)) (start end : ℕ) (lines : RisingLines) → lines.end - start ≡ end - start
-    → IfSome known (λ all. RisesTo all start end lines)
+    → RisesIn known start end lines
     → IfSome known (λ all. end ≤ length all → (after : Option Key) × Rise None (bytes_between all start end) after)
 all_risen None start end lines same risen = tt
 all_risen (Some all) start end lines same risen = λ long. (
   lines.last,
-  subst (λ xs. Rise None xs lines.last) (ap (λ n. take n (drop start all)) same) risen.rise,
+  subst (λ xs. Rise None xs lines.last) (ap (λ n. take n (drop start all)) same) (risen long).rise,
 )

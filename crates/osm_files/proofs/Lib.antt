@@ -45,12 +45,15 @@ pub mod RunBytes
 mod UnsortedLaws
 pub mod RunOrderLaws
 mod CommentLaws
+mod UnknownLineLaws
+mod DroppedLaws
 pub mod CutLaws
 pub mod FrontLaws
 pub mod JoinLaws
 mod RestLaws
 mod LineKeyLaws
 mod KeyOrderLaws
+mod LongLineLaws
 mod SetKeyLaws
 mod SetOrderLaws
 mod KeyedFileLaws

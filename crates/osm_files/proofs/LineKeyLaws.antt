@@ -16,7 +16,7 @@ use Rattle.osm_model.specs.declared.tags.Tag.{Tag}
 use Rattle.osm_model.specs.Data.{VersionData, kind_of, normal_body, version_of}
 use Rattle.osm_model.specs.Kind.{kind_letter}
 use Rattle.osm_model.specs.New.{first_fault, unless_faulty}
-use Rattle.osm_model.specs.Order.{key_of}
+use Rattle.osm_model.specs.Order.{key_of, object_of}
 use Rattle.osm_model.specs.Pairwise.{Pairwise}
 use Rattle.opl_line.specs.Content.{SpellsNumeral, SpellsId, plain_id, minus_id, SpellsObject}
 use Rattle.opl_line.specs.Delimiter.{is_blank, is_line_end, with_byte, split_first, split_all, pieces_of}
@@ -24,13 +24,14 @@ use Rattle.opl_line.specs.Field.{no_fields}
 use Rattle.opl_line.specs.Number.{is_numeral, decimal_value}
 use Rattle.opl_line.specs.Part.{LinePart, letter_of, SpellsPart, with_part}
 use Rattle.opl_line.specs.Part as part
-use Rattle.opl_line.specs.Reading.{is_skipped, meta_of, reading_location, reading_visible, reading_body}
+use Rattle.opl_line.specs.Reading.{is_skipped, meta_of, reading_location, reading_visible, reading_body, reading_object}
 use Rattle.opl_line.specs.Spells.{is_full, fields_of_parts, Spells}
 use Rattle.opl_line.proofs.ContentLaws.{all_weaker}
 use Rattle.opl_line.proofs.CutLaws.{cut_split, split_front, split_never}
-use Rattle.opl_line.proofs.SpellsLaws.{object_read, one_reading}
+use Rattle.opl_line.proofs.SpellsLaws.{object_read, first_and_rest, one_reading}
 use Rattle.o5_codec.proofs.WrittenLists.{heads}
-use Rattle.osm_files.specs.LineKey.{IsKeyOf, IsKeyOfFront, first_line, BeginsWithNumeral, BeginsWithId, BeginsAsVersion, is_field_end}
+use Rattle.osm_files.specs.LineKey.{object_if_read, named_object, IsKeyOf, IsKeyOfFront, first_line}
+use Rattle.osm_files.specs.LineKey.{BeginsWithNumeral, BeginsWithId, BeginsAsVersion, is_field_end}
 
 -- ---- the version number
 -- a field that begins with `v` and a numeral is the version number
@@ -127,6 +128,18 @@ one_object field k l a b s t =
       ap (λ p. p.1) same,
     )
 
+-- the version that a line spells, from the object and the parts of the line
+made_version : (line : List ℕ) (v : VersionData) (s : Spells line v) →
+    version_of s.id (meta_of (fields_of_parts s.parts)) s.version.body ≡ v
+made_version line v s = made_of (first_fault s.id (meta_of (fields_of_parts s.parts)) s.version.body) _ v s.version.made
+
+-- the object of the version that a line spells
+spelled_object : (line : List ℕ) (v : VersionData) (s : Spells line v) → object_of v ≡ record { kind = s.kind; id = s.id }
+spelled_object line v s =
+    let kinds : kind_of (normal_body s.version.body) ≡ s.kind =
+    normal_kind s.version.body ∙ body_kind s.kind (fields_of_parts s.parts) s.version.body s.version.has_body in
+    sym (ap object_of (made_version line v s)) ∙ (λ i. record { kind = kinds i; id = s.id })
+
 -- A line whose first fields are an object and a version number spells only versions of their key.
 spelled_key : (line : List ℕ) (key : Key) (field digits : List ℕ) (more : List (List ℕ))
     → split_all is_blank line ≡ (kind_letter key.object.kind ∷ field) ∷ (118 ∷ digits) ∷ more → SpellsId field key.object.id
@@ -143,13 +156,11 @@ spelled_key line key field digits more pieces id number v s =
     let count : (fields_of_parts s.parts).number ≡ Some key.number =
     numbered s.kind digits key.number (filter is_full more) s.parts number
     (subst (λ xs. Pairwise (SpellsPart s.kind) (filter is_full xs) s.parts) (sym others) l.spelled) l.different in
-    let made : version_of s.id (meta_of (fields_of_parts s.parts)) s.version.body ≡ v =
-    made_of (first_fault s.id (meta_of (fields_of_parts s.parts)) s.version.body) _ v s.version.made in
-    let kinds : kind_of (normal_body s.version.body) ≡ key.object.kind =
-    normal_kind s.version.body ∙ body_kind s.kind (fields_of_parts s.parts) s.version.body s.version.has_body ∙ sym same.0 in
-    let ids : s.id ≡ key.object.id = sym same.1 in
-    let numbers : unwrap_or (fields_of_parts s.parts).number 0 ≡ key.number = ap (λ o. unwrap_or o 0) count in
-    sym (ap key_of made) ∙ (λ i. record { object = record { kind = kinds i; id = ids i }; number = numbers i })
+    let named : object_of v ≡ key.object =
+    spelled_object line v s ∙ (λ i. record { kind = sym same.0 i; id = sym same.1 i }) in
+    let numbers : v.number ≡ key.number =
+    sym (ap (λ w. w.number) (made_version line v s)) ∙ ap (λ o. unwrap_or o 0) count in
+    (λ i. record { object = named i; number = numbers i })
 
 -- ---- the pieces of a line of the usual form
 abbrev is_free : ℕ → Bool
@@ -226,6 +237,19 @@ begins_with_key text key after_letter after_id after_space after_v rest letter (
     }
 
 module _ (key : Key) where
+  -- A line whose first field is an object names it.
+  front_names : (line field rest : List ℕ) → line ≡ kind_letter key.object.kind ∷ (field ++ 32 ∷ rest) → SpellsId field key.object.id
+      → named_object line ≡ Some key.object
+  unfolding named_object
+  front_names line field rest is id =
+      let object : List ℕ = kind_letter key.object.kind ∷ field in
+      let free : list_all is_free object ≡ true =
+      inner_free object (letter_inner key.object.kind field (id_inner field key.object.id id)) in
+      let names : SpellsObject object key.object.kind key.object.id = record { digits = field; lettered = refl; spelled = id } in
+      ap (λ xs. object_if_read (reading_object (split_first is_blank xs).0)) is
+      ∙ ap (λ s. object_if_read (reading_object s.0)) (split_front is_blank object rest 32 free refl)
+      ∙ ap object_if_read (object_read object key.object.kind key.object.id names)
+
   -- A line of the usual form has its key.
   pub usual_line : (line rest : List ℕ) → BeginsAsVersion line key rest → is_field_end rest ≡ true → IsKeyOf line key
   usual_line line rest h ends =
@@ -234,10 +258,12 @@ module _ (key : Key) where
       inner_free object (letter_inner key.object.kind h.id (id_inner h.id key.object.id h.spells_id)) in
       let piece = ended_piece (118 ∷ h.number) rest (inner_free h.number (numeral_inner h.number h.spells_number.numeral)) ends in
       let pieces : split_all is_blank line ≡ object ∷ (118 ∷ h.number) ∷ piece.0 =
-      ap (split_all is_blank) h.is ∙ first_piece object (118 ∷ (h.number ++ rest)) free ∙ ap (λ ps. object ∷ ps) piece.1 in (
-        ap is_skipped h.is ∙ not_comment key.object.kind (h.id ++ 32 ∷ 118 ∷ (h.number ++ rest)),
-        spelled_key line key h.id h.number piece.0 pieces h.spells_id h.spells_number,
-      )
+      ap (split_all is_blank) h.is ∙ first_piece object (118 ∷ (h.number ++ rest)) free ∙ ap (λ ps. object ∷ ps) piece.1 in
+      record {
+        kept = ap is_skipped h.is ∙ not_comment key.object.kind (h.id ++ 32 ∷ 118 ∷ (h.number ++ rest));
+        spelled = spelled_key line key h.id h.number piece.0 pieces h.spells_id h.spells_number;
+        names = front_names line h.id (118 ∷ (h.number ++ rest)) h.is h.spells_id;
+      }
 
   -- A line of the usual form has its key, also if its end isn't known.
   pub usual_front : (bytes rest after : List ℕ) → BeginsAsVersion bytes key rest → rest ≡ 32 ∷ after → IsKeyOfFront bytes key
@@ -273,6 +299,19 @@ minus_front text after rest n minus (digits, is, spelled) small = (
 )
 
 -- ---- a line that is read whole
+-- A line that spells a version names its object.
+pub spelled_names : (line : List ℕ) (v : VersionData) → Spells line v → named_object line ≡ Some (object_of v)
+unfolding named_object
+spelled_names line v s =
+    let l = s.line_parts in
+    ap (λ field. object_if_read (reading_object field)) (first_and_rest line l.object l.others l.fields).0
+    ∙ ap object_if_read (object_read l.object s.kind s.id l.names)
+    ∙ ap Some (sym (spelled_object line v s))
+
 -- The key of the version that a line spells is the line's key.
 pub whole_key : (line : List ℕ) (v : VersionData) (key : Key) → Spells line v → key ≡ key_of v → IsKeyOf line key
-whole_key line v key s is = (s.line_parts.not_skipped, λ w t. ap key_of (one_reading line w v t s) ∙ sym is)
+whole_key line v key s is = record {
+  kept = s.line_parts.not_skipped;
+  spelled = λ w t. ap key_of (one_reading line w v t s) ∙ sym is;
+  names = spelled_names line v s ∙ ap (λ k. Some k.object) (sym is);
+}

@@ -77,6 +77,20 @@ start_within (suc n) all within =
     let few = size_within (drop n all) in
     omega (arith, within, few, length-drop n all)
 
+pub size_some : (bytes : List ℕ) → 0 < length bytes → 1 ≤ line_size bytes
+size_some [] some = absurd (omega (arith, some))
+size_some (b ∷ bytes) some = elim (is_line_end b) as (λ t. 1 ≤ cond t 1 (suc (line_size bytes))) [
+  | true ↦ omega arith
+  | false ↦ omega arith
+]
+
+-- the first line from an offset within the bytes on doesn't begin before that
+pub start_late : (offset : ℕ) (all : List ℕ) → offset ≤ length all → offset ≤ line_start_from offset all
+start_late zero all within = omega arith
+start_late (suc n) all within =
+    let some = size_some (drop n all) (omega (arith, within, length-drop n all)) in
+    omega (arith, some)
+
 begins_at : (n : ℕ) (all : List ℕ) (xs : List ℕ) → drop n all ≡ xs → 0 < length xs → BeginsLine all (n + line_size xs)
 begins_at n all [] is some = absurd (omega (arith, some))
 begins_at n all (b ∷ bytes) is some =

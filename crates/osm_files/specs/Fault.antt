@@ -1,5 +1,5 @@
 -- Faults that more than one call may return: an own rule of this project.
-use Rattle.std.specs.Prelude.{◌≡◌, ◌⊎◌, ℕ, ◌^◌}
+use Rattle.std.specs.Prelude.{ℕ, ◌^◌}
 use Rattle.osm_files.specs.declared.fault.Fault.{Fault}
 use Rattle.osm_files.specs.declared.reason.Reason.{Reason}
 use Rattle.osm_files.specs.declared.reason.Reason.TheVariants.{Memory, Failed, TooLong, WriteFault}
@@ -24,7 +24,3 @@ write_fault input place = record { input = input; place = place; reason = WriteF
 abbrev pub fault_at : ℕ → ℕ → Reason → Fault
 fault_at input place Memory = memory_fault
 fault_at input place reason = record { input = input; place = place; reason = reason }
-
--- the fault has the number of the file `input`, or it is out of memory, which has no file
-abbrev pub IsOfFile : ℕ → Fault → Type 0
-IsOfFile input fault = (fault ≡ memory_fault) ⊎ (fault.input ≡ input)

@@ -1,6 +1,6 @@
 -- The order of OPL lines by their keys: own rules of this project.
-use Rattle.std.specs.Prelude.{◌≡◌, ◌⊎◌, ℕ, ◌+◌, ◌-◌, ◌≤◌, Bool, true, false, List, [], ◌∷◌, ◌++◌, length, take, drop}
-use Rattle.std.specs.Prelude.{filter, Option, Some, None, Result, Ok, Err}
+use Rattle.std.specs.Prelude.{◌≡◌, ◌⊎◌, ℕ, ◌+◌, ◌-◌, ◌<◌, ◌≤◌, Bool, true, false, List, [], ◌∷◌, ◌++◌}
+use Rattle.std.specs.Prelude.{length, take, drop, filter, Option, Some, None, Result, Ok, Err}
 use Rattle.osm_model.specs.declared.object.Key.{Key}
 use Rattle.osm_model.specs.Data.{VersionData}
 use Rattle.osm_model.specs.Pairwise.{Pairwise}
@@ -80,6 +80,19 @@ EndsLines rest lines true (Err stop) = (stop.offset ≡ lines.end) × StepsOver 
 -- the bytes of a file from one offset up to another
 abbrev pub bytes_between : List ℕ → ℕ → ℕ → List ℕ
 bytes_between all start end = take (end - start) (drop start all)
+
+-- The bytes of a file from one offset up to another are lines without a version. The last one has its end, unless it
+-- reaches up to `end`.
+abbrev pub ArePassed : List ℕ → ℕ → ℕ → ℕ → Type 0
+ArePassed all offset next end = ((before : Option Key) → Rise before (bytes_between all offset next) before)
+    × (next < end → EndsLine (bytes_between all offset next))
+
+-- the result of passing the line at an offset of a file, which begins with these bytes
+abbrev pub PassesLine : Type 0 → List ℕ → ℕ → ℕ → List ℕ → Result (Option ℕ) Fault → Type 0
+PassesLine Fails all offset end front (Ok None) = Unit {0}
+PassesLine Fails all offset end front (Ok (Some next)) = ArePassed all offset next end
+PassesLine Fails all offset end front (Err fault) =
+    IsReadFailure Fails fault ⊎ ((more : List ℕ) → IsNoFile (front ++ more))
 
 -- the result of a search for the first line whose key is below the key before it
 abbrev pub IsOrderOfLines : Type 0 → List ℕ → ℕ → ℕ → Result (Option ℕ) Fault → Type 0

@@ -30,6 +30,7 @@ pub mod Verdict
 pub mod Laws
 pub mod Reading
 pub mod Position
+pub mod UnknownLine
 pub mod Spell
 pub mod Sink
 pub mod InsideSink

@@ -2,13 +2,15 @@
 use Rattle.std.specs.Prelude.{◌≡◌, ◌⊎◌, ℕ, ℤ, Bool, true, false, not, ◌&&◌, ◌==◌, List, [], ◌∷◌, ◌++◌}
 use Rattle.std.specs.Prelude.{Option, Some, None, Result, Ok, Err}
 use Rattle.std.specs.Ordering.{is_lt}
+use Rattle.osm_model.specs.declared.kind.Kind.{Kind}
 use Rattle.osm_model.specs.declared.object.Key.{Key}
+use Rattle.osm_model.specs.declared.object.Object.{Object}
 use Rattle.osm_model.specs.Data.{VersionData}
 use Rattle.osm_model.specs.Kind.{kind_letter}
 use Rattle.osm_model.specs.Order.{key_of, key_order}
 use Rattle.opl_line.specs.Content.{SpellsId, SpellsNumeral}
-use Rattle.opl_line.specs.Delimiter.{is_line_end, split_first}
-use Rattle.opl_line.specs.Reading.{is_skipped}
+use Rattle.opl_line.specs.Delimiter.{is_blank, is_line_end, split_first}
+use Rattle.opl_line.specs.Reading.{is_skipped, reading_object}
 use Rattle.opl_line.specs.Spells.{Spells, SpellsNothing}
 use Rattle.opl_line.specs.declared.reason.OplReason.{OplReason}
 use Rattle.opl_line.specs.declared.reason.OplReason.TheVariants as opl
@@ -18,9 +20,21 @@ abbrev pub is_key_below : Key → Option Key → Bool
 is_key_below key None = false
 is_key_below key (Some before) = is_lt (key_order key before)
 
--- the line isn't skipped, and each version that it spells has this key
-abbrev pub IsKeyOf : List ℕ → Key → Type 0
-IsKeyOf line key = (is_skipped line ≡ false) × ((v : VersionData) → Spells line v → key_of v ≡ key)
+-- the object of a kind and an id, if a field has them
+abbrev pub object_if_read : Result (Kind × ℤ) OplReason → Option Object
+object_if_read (Ok (kind, id)) = Some (record { kind = kind; id = id })
+object_if_read (Err reason) = None
+
+-- The object that a line names: that of its first field, if this is the letter of a kind and an id. The other fields
+-- make no difference, so a line that spells no version may name an object.
+unfoldable pub named_object : List ℕ → Option Object
+named_object line = object_if_read (reading_object (split_first is_blank line).0)
+
+-- the line isn't skipped, it names the key's object, and each version that it spells has this key
+pub record IsKeyOf (line : List ℕ) (key : Key) : Type 0 where
+  pub kept : is_skipped line ≡ false
+  pub spelled : (v : VersionData) → Spells line v → key_of v ≡ key
+  pub names : named_object line ≡ Some key.object
 
 -- the first line of some bytes, without its end
 abbrev pub first_line : List ℕ → List ℕ

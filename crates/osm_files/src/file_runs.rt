@@ -43,6 +43,7 @@ use std::alloc::Global;
 ///
 /// The fault of the file, with the number 0, if a line or data set can't be read, or if the file can't be read; or
 /// `Memory`. A file that is accepted in some order of its versions is refused only if a read fails or memory runs out.
+/// A line of more than 64 KB that begins no version is `UnknownKind`, even if it isn't UTF-8: its end isn't searched.
 pub fn find_runs<F: ReadAt>(
     alloc: Global,
     file: &F,

@@ -1,5 +1,6 @@
 //! The order of the lines of an OPL file by their keys. The lines are read in windows of the file.
-ghost use Rattle.std.specs.Prelude.{◌≡◌, ◌+◌, ◌<◌, ◌≤◌, ◌^◌, true, [], Ok, length, take, IfOk, IfErr, OnErr, IfSome};
+ghost use Rattle.std.specs.Prelude.{◌≡◌, ◌+◌, ◌<◌, ◌≤◌, ◌^◌, true, [], Ok, Some, length, take};
+ghost use Rattle.std.specs.Prelude.{IfOk, IfErr, OnErr, IfSome};
 ghost use Rattle.osm_files.specs.FileRuns.{IsReadFailure};
 ghost use Rattle.osm_files.specs.KeyOrder as spec;
 ghost use Rattle.osm_files.specs.ReadAt.{AreAt, AreLast};
@@ -7,13 +8,15 @@ ghost use Rattle.osm_files.specs.ReadAt.{AreAt, AreLast};
 use crate::fault::Fault;
 use crate::input::Broken;
 use crate::line_key::{is_key_below, read_key};
+use crate::lines::line_start;
 use crate::read_at::ReadAt;
 use crate::reason::Reason;
+use crate::unknown_line::begins_unknown;
 use opl_line::{LineReader, OplReason, find_line_end};
 use osm_model::Key;
 use std::alloc::Global;
 
-/// The number of bytes of a window. A window is larger only if a line doesn't end in it.
+/// The number of bytes of a window. A window is larger only if a line that may hold a version doesn't end in it.
 pub(crate) const WINDOW: u64 = 65536;
 
 /// Lines whose keys don't fall.
@@ -67,12 +70,11 @@ pub(crate) fn first_falling<F: ReadAt>(
         let count = left.min(window);
         let bytes = read_exact(alloc, file, lines.end, count as usize)?;
         match read_lines(alloc, &bytes, lines, count == left) {
-            Ok(read) => {
-                if read.end == lines.end {
-                    window = window.saturating_mul(2);
-                }
-                lines = read;
-            }
+            Ok(read) if read.end > lines.end => lines = read,
+            Ok(_) => match pass_line(file, &bytes, lines.end, end)? {
+                Some(next) => lines.end = next,
+                None => window = window.saturating_mul(2),
+            },
             Err(stop) => return stop.outcome(),
         }
     }
@@ -89,6 +91,30 @@ impl StopAt {
             Stop::Refused(reason) => Err(Fault::at(0, self.offset, Reason::from(reason))),
         }
     }
+}
+
+/// Passes a line that doesn't end in a window, and of which `front` are the first bytes, from `offset` on. Returns the
+/// offset of the next line after a comment, of which no byte is kept; `None` if the line may hold a version.
+///
+/// # Errors
+///
+/// `UnknownKind` if the line begins no version. It may be `NotUtf8` as well: the rest of the line isn't read.
+/// `ReadFault` if the file can't be read.
+fn pass_line<F: ReadAt>(file: &F, front: &[u8], offset: u64, end: u64) -> Result<Option<u64>, Fault>
+    requires some { offset < end }
+    requires begun { 0 < length front.now }
+    ensures passed { IfSome (F.bytes file.now) (λ all. end ≤ length all → AreAt (Some all) offset front.now
+        → spec.PassesLine (F.fails file.now) all offset end front.now result) }
+    ensures onward { IfOk result (λ next. IfSome next (λ next. (offset < next) × (next ≤ end))) }
+{
+    if begins_unknown(front[0]) {
+        return Err(Fault::at(0, offset, Reason::from(OplReason::UnknownKind)));
+    }
+    if front[0] != b'#' {
+        return Ok(None);
+    }
+    let next = line_start(file, offset + 1, end)?;
+    Ok(Some(next.clamp(offset + 1, end)))
 }
 
 /// The `count` bytes of a file from `offset` on.

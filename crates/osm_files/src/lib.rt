@@ -33,6 +33,7 @@ mod sorted_run;
 mod source;
 mod split_file;
 mod unit;
+mod unknown_line;
 mod write;
 
 pub use buffered::Buffered;
@@ -45,7 +46,7 @@ pub use file_runs::find_runs;
 pub use format::{FORMAT_NAMES, Format};
 pub use history_source::HistorySource;
 pub use input::{Broken, FromRead, Input, SliceIn};
-pub use lines::{first_key, line_start};
+pub use lines::{first_object, line_start};
 pub use load::{Loaded, find_fault, load_any, load_ended};
 pub use o5::O5_START;
 pub use output::{Output, ToWrite, VecOut};

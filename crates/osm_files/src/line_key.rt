@@ -1,9 +1,5 @@
-//! The keys of OPL lines: the kind, the id and the number of the version that a line spells.
-//!
-//! Why: a search for sorted runs compares only keys, so the other fields of nearly all lines needn't be read.
-//! Assumes: a line of the usual form begins with a letter, an id, a space, `v` and a version number.
-//! Otherwise: the line is read whole.
-//! Compared by: `keys_are_those_of_whole_lines`.
+//! The keys of OPL lines: the kind, the id and the number of the version that a line spells. A line of the usual form
+//! begins with a letter, an id, a space, `v` and a version number; another one is read whole.
 ghost use Rattle.std.specs.Prelude.{◌≡◌, ◌<◌, ◌≤◌, ◌^◌, ◌∷◌, IfSome};
 ghost use Rattle.osm_model.specs.Kind.{kind_letter};
 ghost use Rattle.opl_line.specs.Number.{with_sign};

@@ -12,7 +12,7 @@ use crate::line_key::{front_key, read_key};
 use crate::read_at::ReadAt;
 use crate::reason::Reason;
 use opl_line::{LineReader, find_line_end};
-use osm_model::Key;
+use osm_model::Object;
 use std::alloc::Global;
 
 /// The number of bytes that the first read of a search asks for.
@@ -83,35 +83,36 @@ fn search<F: ReadAt>(file: &F, offset: u64, end: u64, buffer: &mut [u8]) -> Resu
 /// What the front of some lines shows.
 #[derive(Clone, Copy, Debug)]
 enum Front {
-    /// The key of the first version.
-    Keyed(Key),
+    /// The object that the first line names.
+    Named(Object),
     /// The lines before this offset are skipped.
     Skipped(u64),
 }
 
-/// The key of the first version in the lines of an OPL file from the offset `start`, at which a line begins, up to the
-/// offset `end`; `None` if they hold no version.
+/// The object that the first line that isn't skipped names in its first field, of the lines of an OPL file from the
+/// offset `start`, at which a line begins, up to the offset `end`; `None` if all are skipped. It is the object of the
+/// first version, if the lines spell versions.
 ///
-/// The rest of a line of the usual form isn't read, so the line has a key even if it spells no version. The search
-/// doesn't keep a comment, however long it is.
+/// The rest of a line of the usual form isn't read, so the line may spell no version. The search doesn't keep a
+/// comment, however long it is.
 ///
 /// # Errors
 ///
 /// The reason why the first line that isn't skipped can't be read, at the line's offset in the file. `ReadFault` if the
 /// file can't be read or is shorter; or `Memory`. The fault has the number 0.
-pub fn first_key<F: ReadAt>(
+pub fn first_object<F: ReadAt>(
     alloc: Global,
     file: &F,
     start: u64,
     end: u64,
-) -> Result<Option<Key>, Fault>
+) -> Result<Option<Object>, Fault>
     ensures first { IsFirstBetween (F.fails file.now) (F.bytes file.now) start end result }
 {
     let mut buffer = [0u8; NEAR];
     let mut offset = start;
     'fronts: while offset < end {
         match read_front(alloc, file, offset, end, &mut buffer)? {
-            Front::Keyed(key) => return Ok(Some(key)),
+            Front::Named(object) => return Ok(Some(object)),
             Front::Skipped(next) => offset = next,
         }
     }
@@ -140,7 +141,7 @@ fn read_front<F: ReadAt>(
     };
     let bytes = &buffer[..count];
     if let Some(key) = front_key(bytes) {
-        return Ok(Front::Keyed(key));
+        return Ok(Front::Named(key.object));
     }
     let size = skipped_size(bytes);
     if size > 0 {
@@ -180,7 +181,7 @@ fn read_line<F: ReadAt>(alloc: Global, file: &F, offset: u64, next: u64) -> Resu
 {
     let bytes = read_exact(alloc, file, offset, (next - offset) as usize)?;
     match read_key(&mut LineReader::new(alloc), first_line(&bytes)) {
-        Ok(Some(key)) => Ok(Front::Keyed(key)),
+        Ok(Some(key)) => Ok(Front::Named(key.object)),
         Ok(None) => Ok(Front::Skipped(next)),
         Err(reason) => Err(Fault::at(0, offset, Reason::from(reason))),
     }

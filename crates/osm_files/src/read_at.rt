@@ -78,11 +78,6 @@ impl<F: FileExt> FromFile<F> {
     pub fn get_ref(&self) -> &F {
         &self.file
     }
-
-    /// The file of the standard library.
-    pub fn into_inner(self) -> F {
-        self.file
-    }
 }
 
 impl<F: FileExt> ReadAt for FromFile<F> {

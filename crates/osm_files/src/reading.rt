@@ -1,10 +1,5 @@
-//! Reading the units of an input one by one, in whatever pieces its bytes come.
-//!
-//! Why: a line that is longer than one read is searched for its end once, so the time is linear in the file. A merge of
-//! one line of 64 MB takes 0.5 s, and took 27 s while each read searched the line anew.
-//! Assumes: no unit is whole in the first `searched` of the bytes held.
-//! Otherwise: `searched` is 0, and all of the bytes held are searched, as after each unit.
-//! Compared by: `files_in_pieces`, which reads each file whole and in pieces.
+//! Reading the units of an input one by one, in whatever pieces its bytes come. A line that is longer than one read is
+//! searched for its end once, so the time is linear in the file.
 ghost use Rattle.std.specs.Prelude.{◌≡◌, ◌+◌, ◌<◌, ◌≤◌, ◌^◌, ◌⊎◌, true, false, None, Some, Ok, Err, []};
 ghost use Rattle.std.specs.Prelude.{length, drop, take, option_map};
 ghost use Rattle.std.specs.Prelude.{is_err, IfOk, IfErr, OnOk, OnErr, IsSome, if◌then◌else◌};
@@ -18,6 +13,9 @@ ghost use Rattle.osm_files.specs.declared.format.Format.TheVariants.{O5m, O5c};
 ghost use Rattle.osm_files.specs.Stream.{new_placed};
 ghost use Rattle.osm_files.specs.Position.{Between, HasRead, StopsAt, FindsUnit, IsShortened, with_state, state_at};
 ghost use Rattle.osm_files.specs.Position.{units_left};
+ghost use Rattle.osm_files.specs.UnknownLine.{HoldsUnknown, DropsTested};
+ghost use Rattle.osm_files.specs.declared.reason.Reason.TheVariants.{NoEnd};
+ghost use Rattle.std.specs.Bool.{OnTrue};
 
 use crate::end_rule::{EndRule, EndTest};
 use crate::fault::{Fault, LENGTH_LIMIT};
@@ -28,12 +26,15 @@ use crate::placed::Placed;
 use crate::read_buffer::ReadBuffer;
 use crate::reason::Reason;
 use crate::unit::{FileState, ReadUnit};
+use crate::unknown_line::{TestedFront, begins_unknown};
+use opl_line::find_line_end;
 use osm_model::Version;
 use std::alloc::Global;
 use std::marker::Model;
 
-/// The least number of bytes of a comment that are dropped before its end is read.
-const LONG_COMMENT: usize = 65536;
+/// The least number of bytes of a comment, or of a line that begins no version, that are dropped before the line's end
+/// is read.
+const LONG_LINE: usize = 65536;
 
 /// A reading of the units of an input.
 #[derive(Drop)]
@@ -210,12 +211,80 @@ impl<R: Input> Reading<R> {
         ensures { (self.new ≡ self.old) ⊎ IsShortened self.old self.new }
     {
         let held = self.read_buffer.len();
-        if held < LONG_COMMENT || self.read_buffer.as_slice()[0] != b'#' {
+        if held < LONG_LINE || self.read_buffer.as_slice()[0] != b'#' {
             return;
         }
         if let Some(FileState::Lines(_)) = &self.stage {
             self.offset += (held - 1) as u64;
             self.read_buffer.truncate(1);
+        }
+    }
+
+    /// Whether the bytes held begin a long line that begins no version.
+    #[inline(never)]
+    fn holds_unknown(&self) -> bool
+        ensures { OnTrue result (HoldsUnknown self.now) }
+    {
+        let held = self.read_buffer.as_slice();
+        if held.len() < LONG_LINE || !begins_unknown(held[0]) {
+            return false;
+        }
+        matches!(&self.stage, Some(FileState::Lines(_)))
+    }
+
+    /// Tests the first bytes held, which follow a front with the result `front`, and drops them. Returns the result for
+    /// the front with these bytes.
+    fn drop_tested(&mut self, front: TestedFront) -> TestedFront
+        ensures dropped { DropsTested self.old front result self.new }
+        ensures bound { self.old.offset + length self.old.held < 2 ^ 62 }
+    {
+        let (front, size) = front.extend(self.read_buffer.as_slice());
+        self.read_buffer.skip(size);
+        self.offset += size as u64;
+        front
+    }
+
+    /// Refuses the line at the front of the bytes held, which begins no version, once its end or the input's end was
+    /// read. A line of 700 MB takes no more memory than one of 64 KB.
+    #[inline(never)]
+    fn refuse_unknown(&mut self) -> Fault
+        requires good { self.old.failed ≡ false }
+        requires unended { self.old.ended ≡ false }
+        requires unknown { HoldsUnknown self.old }
+        requires nothing { spec.unit_at (state_at self.old) self.old.held ≡ None }
+        ensures step { StepsOn R.can_give self.old (Err result) self.new }
+        ensures failed { self.new.failed ≡ true }
+        ensures input { self.new.input ≡ self.old.input }
+    {
+        let start = self.offset;
+        let mut front = TestedFront::Utf8;
+        'pieces: loop {
+            front = self.drop_tested(front);
+            if let Err(fault) = self.fill() {
+                return fault;
+            }
+            let held = self.read_buffer.as_slice();
+            if let Some(size) = find_line_end(held) {
+                let reason = front.reason(&held[..size]);
+                return self.refuse(start, Reason::from(reason));
+            }
+            if self.ended {
+                let reason = front.reason(held);
+                return self.refuse_last(start, Reason::from(reason));
+            }
+        }
+    }
+
+    /// Refuses the last line of an ended input for `reason`, or as NoEnd if the input lacks its end.
+    fn refuse_last(&mut self, start: u64, reason: Reason) -> Fault
+        ensures failed { self.new ≡ record self.old { failed = true } }
+        ensures cut { lacks_end self.old.end ≡ true
+            → result ≡ fault_at self.old.input (self.old.offset + length self.old.held) NoEnd }
+        ensures uncut { lacks_end self.old.end ≡ false → result ≡ fault_at self.old.input start reason }
+    {
+        match self.check_end() {
+            Ok(()) => self.refuse(start, reason),
+            Err(fault) => fault,
         }
     }
 
@@ -235,6 +304,22 @@ impl<R: Input> Reading<R> {
             None => None,
             Some(version) => Some(Placed { offset, version }),
         }
+    }
+
+    /// Refuses an ended input that lacks its end.
+    fn check_end(&mut self) -> Result<(), Fault>
+        ensures ends { OnOk result (lacks_end self.old.end ≡ false) }
+        ensures same { OnOk result (self.new ≡ self.old) }
+        ensures lacks { OnErr result (lacks_end self.old.end ≡ true) }
+        ensures failed { OnErr result (self.new ≡ record self.old { failed = true }) }
+        ensures fault { IfErr result (λ fault.
+            fault ≡ fault_at self.old.input (self.old.offset + length self.old.held) NoEnd) }
+    {
+        if self.end.lacks_end() {
+            let length = self.offset + self.read_buffer.len() as u64;
+            return Err(self.refuse(length, Reason::NoEnd));
+        }
+        Ok(())
     }
 
     /// The version of the last bytes of an ended input, if no unit is whole.
@@ -286,10 +371,7 @@ impl<R: Input> Reading<R> {
         ensures onward { OnOk result (self.old.offset ≤ self.new.offset) }
         ensures input { self.new.input ≡ self.old.input }
     {
-        if self.end.lacks_end() {
-            let length = self.offset + self.read_buffer.len() as u64;
-            return Err(self.refuse(length, Reason::NoEnd));
-        }
+        self.check_end()?;
         self.finish_last()
     }
 
@@ -319,6 +401,7 @@ impl<R: Input> Reading<R> {
                     None => searched = 0,
                 },
                 Ok(None) if self.ended => return self.finish_input(),
+                Ok(None) if self.holds_unknown() => return Err(self.refuse_unknown()),
                 Ok(None) => {
                     self.shorten_comment();
                     searched = self.read_buffer.len();

@@ -1,11 +1,5 @@
-//! The keys of the data sets of o5 files: the kind, the id and the number of the version that a data set spells.
-//!
-//! Why: a search for sorted runs compares only keys, so the rest of a data set needn't be read, and no string table is
-//! kept.
-//! Assumes: a data set of the usual form has a length that is there, and content that begins with an id and a version
-//! number.
-//! Otherwise: no part is read, and the caller reads the run whole.
-//! Compared by: `keys_are_those_of_whole_sets`.
+//! The keys of the data sets of o5 files: the kind, the id and the number of the version that a data set spells. A set
+//! of the usual form has an id and a version number first; at another one the caller reads the run whole.
 ghost use Rattle.std.specs.Prelude.{◌≡◌, ◌+◌, ◌<◌, ◌≤◌, ◌∷◌, ◌++◌, Ok, None, List, ℕ, length, take, IfSome};
 ghost use Rattle.o5_codec.specs.Base.{moved_id};
 ghost use Rattle.osm_files.specs.FirstFault.{IsSetType};

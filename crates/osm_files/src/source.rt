@@ -1,10 +1,5 @@
-//! Sources: versions in ascending order, one by one.
-//!
-//! Why: nearly every key group is one version. It is returned without a list and without a sort, so a source takes only
-//! 7 percent more time than the reading of its lines, and 10 percent more than the reading of its data sets.
-//! Assumes: the next version has another key, which a comparison shows.
-//! Otherwise: `next_of_many` reads the whole group into a list, sorts it and drops repeats.
-//! Compared by: `source_gives_its_versions` and `files_in_pieces`, over groups of one version and of several.
+//! Sources: versions in ascending order, one by one. A key group of one version, as nearly all are, is returned without
+//! a list and without a sort.
 ghost use Rattle.std.specs.Prelude.{◌≡◌, ℕ, ◌+◌, ◌<◌, [], ◌∷◌, Bool, true, false, None, Some, Ok, Err};
 ghost use Rattle.std.specs.Prelude.{option_to_list, is_err, IsSome, IfOk, IfErr, OnErr};
 ghost use Rattle.std.specs.Vec.Iter.{into_iter_items};

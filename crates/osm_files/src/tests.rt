@@ -363,6 +363,75 @@ fn long_comment_in_pieces(rt: HostRuntime) {
     }
 }
 
+/// The versions of a file of a node and a line of three parts, of which the second is repeated 70,000 times. The file
+/// comes by `step` bytes a read and has to end as `end` says. After its last byte the reader fails if `fails` is set.
+fn unknown_line_text(
+    alloc: Global,
+    line: [&[u8]; 3],
+    end: EndRule,
+    fails: bool,
+    step: usize,
+) -> String {
+    let [front, repeated, after] = line;
+    let mut file = Vec::new(alloc);
+    let _ = file.extend_from_slice(b"n1 v1 x1 y1\n");
+    let _ = file.extend_from_slice(front);
+    for _ in 0..70_000 {
+        let _ = file.extend_from_slice(repeated);
+    }
+    let _ = file.extend_from_slice(after);
+    let read = Cell::new(0usize);
+    let pieces = Pieces {
+        rest: &file,
+        step,
+        read: &read,
+        fails,
+    };
+    given_text(
+        alloc,
+        FileSource::with_peers(alloc, 0, end, FromRead::new(pieces), 1),
+    )
+}
+
+/// A long line that begins no version has the place and the reason of a short one. Characters of two bytes are cut
+/// where a read ends.
+#[test]
+fn unknown_line_in_pieces(rt: HostRuntime) {
+    let unknown = "file 0, byte 12: UnknownKind\n";
+    let not_utf8 = "file 0, byte 12: NotUtf8\n";
+    let more = b"\nn2 v1 x1 y1\n".as_slice();
+    for (line, text) in [
+        ([b"".as_slice(), b"\0\0", more], unknown),
+        ([b"", b"\0\0", b""], unknown),
+        ([b" n1", b"\xc3\xa9", more], unknown),
+        ([b" n1", b"\xc3\xa9", b""], unknown),
+        ([b" n1", b"\xc3\xa9", b"\xff\n"], not_utf8),
+        ([b" n1", b"\xc3\xa9", b"\xc3"], not_utf8),
+        ([b" n1", b"\xa9\xc3", more], not_utf8),
+    ] {
+        for step in [1, 4_096, 65_536] {
+            let given = unknown_line_text(rt.alloc(), line, EndRule::Any, false, step);
+            assert_eq!(rt; given.as_str().starts_with(text), true);
+        }
+    }
+}
+
+/// Where a long line that begins no version is the last one, a missing end and a failed read come first.
+#[test]
+fn unknown_line_at_the_end(rt: HostRuntime) {
+    let (rule, unknown) = (EndRule::LineFeed, "file 0, byte 12: UnknownKind\n");
+    for (after, end, fails, text) in [
+        (b"\n".as_slice(), rule, false, unknown),
+        (b"", rule, false, "file 0, byte 140012: NoEnd\n"),
+        (b"", EndRule::Any, true, "file 0, byte 140012: ReadFault\n"),
+    ] {
+        for step in [1, 4_096, 65_536] {
+            let given = unknown_line_text(rt.alloc(), [b"", b"\0\0", after], end, fails, step);
+            assert_eq!(rt; given.as_str().starts_with(text), true);
+        }
+    }
+}
+
 /// Five nodes, each in a line of 15 bytes.
 const NODES: &[u8] =
     b"n1 v1 dV x1 y1\nn2 v1 dV x1 y1\nn3 v1 dV x1 y1\nn4 v1 dV x1 y1\nn5 v1 dV x1 y1\n";

@@ -22,7 +22,7 @@ use file_run::make_output;
 use osm_mirror::{Escaped, Explanation, ReasonList};
 use plan_run::run_plan;
 pub(crate) use refusal::Refusal;
-use request::{InputFiles, OutputRequest, Request, read_list};
+use request::{OutputRequest, Request, read_list};
 use std::alloc::{AllocGlobal, Global};
 use std::convert::AsStr;
 use std::fs::File;
@@ -137,7 +137,7 @@ fn run_request<I: Read + Drop, O: Write + IsTerminal, E: Write + IsTerminal>(
         Err(refusal) => return hint::report(rt, &refusal, err, hints),
     };
     let outcome = match &request.output {
-        Some(output) => write_output(rt, output, &request.files, stdin, out, err),
+        Some(output) => write_output(rt, &request, output, stdin, out, err),
         None => check_files(rt, request.flags, &request.files, stdin, out, err),
     };
     status_of(rt, outcome, err, hints)
@@ -146,17 +146,17 @@ fn run_request<I: Read + Drop, O: Write + IsTerminal, E: Write + IsTerminal>(
 /// Makes OUT from the files, and advises of what may surprise. Returns the exit status.
 fn write_output<'a, I: Read + Drop, O: Write + IsTerminal, E: Write + IsTerminal>(
     rt: &impl Host,
+    request: &Request<'a>,
     output: &OutputRequest<'a>,
-    files: &InputFiles<'a>,
     stdin: Option<I>,
     out: &mut O,
     err: &mut E,
 ) -> Result<u8, Refusal<'a>> {
-    let has_more_o5 = make_output(rt, output, files, stdin, out, err)?;
+    let has_more_o5 = make_output(rt, request, output, stdin, out, err)?;
     let more = format!(in rt.alloc(); "{}", hint::MORE_O5).ok();
-    hint::advise(more.filter(|_| has_more_o5), err, output.flags.hints);
+    hint::advise(more.filter(|_| has_more_o5), err, request.flags.hints);
     let other = hint::after_output(rt.alloc(), output.name, output.asked.format);
-    hint::advise(other, err, output.flags.hints);
+    hint::advise(other, err, request.flags.hints);
     Ok(0)
 }
 

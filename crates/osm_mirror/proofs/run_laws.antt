@@ -28,6 +28,8 @@ pub mod FileExtentLaws
 pub mod ShardSpanLaws
 pub mod SpanJobLaws
 pub mod ShardJobLaws
+pub mod ShardsReadLaws
+pub mod ExtentReadLaws
 pub mod ShardTextLaws
 pub mod NamesLaws
 pub mod JobInputLaws

@@ -13,6 +13,7 @@ pub mod Slices
 pub mod CutOffset
 pub mod Shards
 pub mod FilesJob
+pub mod WaysJob
 pub mod Request
 pub mod FilesRefusal
 pub mod Bounds
@@ -22,6 +23,7 @@ pub mod ShardSpan
 pub mod ShardExtent
 pub mod ShardJob
 pub mod ShardRefusal
+pub mod ShardsRead
 pub mod Shard
 pub mod Names
 pub mod JobInput

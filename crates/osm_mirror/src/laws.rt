@@ -11,6 +11,7 @@ ghost use Rattle.osm_mirror.specs.run.KnownInputs.{MergesWriteASet, JobsWriteASe
 ghost use Rattle.osm_mirror.specs.run.KnownInputs.{RefusedMergesHaveBegun, RefusedJobsHaveBegun};
 ghost use Rattle.osm_mirror.specs.run.ShardJob.{ShardJobsWriteTheJob};
 ghost use Rattle.osm_mirror.specs.run.Shards.{ExtentsHoldTheFile, ShardsWriteTheJob};
+ghost use Rattle.osm_mirror.specs.run.ShardsRead.{ShardsReadSortedFiles};
 ghost use Rattle.osm_mirror.specs.run.Slices.{SlicesHoldTheFile, SlicesWriteTheJob};
 ghost use Rattle.osm_mirror.specs.run.SortedRuns.{SortedRunsHoldTheFile, SortedRunsWriteTheFile};
 
@@ -80,6 +81,12 @@ pub fn faulty_spells_nothing()
 /// The jobs for all shards of an output write, in sequence, the same bytes as one job over the files.
 pub fn shard_jobs_write_the_job()
     ensures { ShardJobsWriteTheJob }
+{}
+
+/// If the jobs for all shards of an output succeed over the same files, each of these files is sorted. A job shows
+/// this of what it reads, by the clause `read` of [`run_shard`](crate::run_shard).
+pub fn shards_read_sorted_files()
+    ensures { ShardsReadSortedFiles }
 {}
 
 /// Inputs that report their bytes can give nothing else. So a property of some bytes that they can give is a property

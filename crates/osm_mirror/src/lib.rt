@@ -20,11 +20,11 @@ pub use report::{
 };
 pub use run::{
     CheckReport, Checked, Command, FileRequest, FilesJob, InputFile, InputsJob, JobFile, JobInput,
-    Metered, NamesFault, Order, Place, ReadAs, RequestFault, Shard, ShardJob, Slice, SliceFile,
-    Tally, Watch, cut_offset, folder_of, is_opl, is_part, last_of, part_name, read_moment,
-    read_names, read_retried, run_apply, run_check, run_check_sorted, run_files, run_inputs,
-    run_merge, run_period_filter, run_selected, run_shard, run_slice, run_sort, run_tally,
-    run_tally_file, run_tally_sorted, run_time_filter, write_retried,
+    Metered, NamesFault, Order, Place, ReadAs, RequestFault, Shard, ShardJob, Tally, Watch,
+    cut_offset, folder_of, is_opl, is_part, last_of, part_name, read_moment, read_names,
+    read_retried, run_apply, run_check, run_check_sorted, run_files, run_inputs, run_merge,
+    run_period_filter, run_selected, run_shard, run_sort, run_tally, run_tally_file,
+    run_tally_sorted, run_time_filter, write_retried,
 };
 
 #[cfg(test)]

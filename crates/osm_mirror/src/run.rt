@@ -1,5 +1,5 @@
 //! The one job over files, which writes the selection of the union of their sets as one file. Its modules are its
-//! inputs, the jobs of the commands, slices and shards, and the check of a file.
+//! inputs, the jobs of the commands and of shards, and the check of a file.
 ghost use Rattle.std.specs.Prelude.{IfOk, IfErr, OnOk};
 ghost use Rattle.osm_files.specs.Output.{IsGoodThroughout};
 ghost use Rattle.osm_files.specs.Change.{change_of};
@@ -31,7 +31,6 @@ mod retried;
 mod shard;
 mod shard_extent;
 mod shard_job;
-mod slice;
 mod source;
 mod tally;
 mod tally_file;
@@ -55,7 +54,6 @@ pub use request::{Command, FileRequest, RequestFault, read_moment};
 pub use retried::{read_retried, write_retried};
 pub use shard::{Shard, is_opl};
 pub use shard_job::{ShardJob, run_shard};
-pub use slice::{Slice, SliceFile, run_slice};
 use std::alloc::Global;
 pub use tally::Tally;
 pub use tally_file::run_tally_file;

@@ -1,7 +1,8 @@
 //! The commands over small files of each format, with their output worked out by hand.
 use crate::{
-    CheckReport, InputFile, Kind, Object, Outside, ReadAs, Span, read_moment, run_apply, run_check,
-    run_check_sorted, run_merge, run_period_filter, run_selected, run_sort, run_time_filter,
+    CheckReport, InputFile, Kind, Object, Order, Outside, ReadAs, Span, read_moment, run_apply,
+    run_check, run_check_sorted, run_merge, run_period_filter, run_selected, run_sort,
+    run_time_filter,
 };
 use osm_files::{Broken, EndRule, Fault, Format, Input, SliceIn, VecOut};
 use osm_merge::{Counts, NoProgress, Selection};
@@ -44,7 +45,7 @@ impl Command {
 
 /// Any order if `is_any` is set, else sorted.
 fn any_if(is_any: bool) -> ReadAs {
-    if is_any { ReadAs::Any } else { ReadAs::Sorted }
+    ReadAs::InOrder(if is_any { Order::Any } else { Order::Sorted })
 }
 
 /// The choice of the files that are read as sorted ones; the others are read as files of any order.
@@ -59,8 +60,8 @@ enum Mix {
 impl Mix {
     fn read_as(self, index: usize) -> ReadAs {
         match self {
-            Mix::AllSorted => ReadAs::Sorted,
-            Mix::NoneSorted => ReadAs::Any,
+            Mix::AllSorted => ReadAs::InOrder(Order::Sorted),
+            Mix::NoneSorted => ReadAs::InOrder(Order::Any),
             Mix::EverySecond => any_if(index % 2 == 0),
             Mix::OddAny => any_if(index % 2 == 1),
         }
@@ -658,7 +659,7 @@ fn joined_slice(alloc: Global, whole: &[u8], unsorted: &[u8]) -> Vec<u8> {
     let mut inputs = Vec::new(alloc);
     for (file, read_as) in [
         (whole, ReadAs::Within(span, Outside::Dropped)),
-        (unsorted, ReadAs::Any),
+        (unsorted, ReadAs::InOrder(Order::Any)),
     ] {
         let _ = inputs.push(InputFile {
             reader: SliceIn::new(file),

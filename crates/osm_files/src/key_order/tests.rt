@@ -3,7 +3,6 @@ use super::{WINDOW, first_falling};
 use crate::input::Broken;
 use crate::read_at::ReadAt;
 use crate::texts::push_fault;
-use osm_model::Memory;
 use std::alloc::Global;
 
 /// A file that gives one byte in each read, and fails at the offset `broken`.
@@ -94,14 +93,26 @@ fn the_lines_of_a_part_are_read(rt: HostRuntime) {
     }
 }
 
-#[test]
-fn a_line_may_be_longer_than_a_window(rt: HostRuntime) -> Result<(), Memory> {
-    let mut file = Vec::new(rt.alloc());
-    file.extend_from_slice(b"n2 v1 dD\n")?;
-    file.resize(3 * WINDOW as usize, b'#')?;
-    file.extend_from_slice(b"\nn1 v1 dD\n")?;
+/// The order of a deletion, a line of `front` and zeros or `#`s, and a deletion with a lesser key.
+fn long_line_text(alloc: Global, front: &[u8], repeated: u8) -> String {
+    let mut file = Vec::new(alloc);
+    let _ = file.extend_from_slice(b"n2 v1 dD\n");
+    let _ = file.extend_from_slice(front);
+    let _ = file.resize(3 * WINDOW as usize, repeated);
+    let _ = file.extend_from_slice(b"\nn1 v1 dD\n");
     let bytes = file.as_slice();
-    let text = order_text(rt.alloc(), &bytes, 0, bytes.len() as u64);
-    assert_eq!(rt; text.as_str(), "196609");
-    Ok(())
+    order_text(alloc, &bytes, 0, bytes.len() as u64)
+}
+
+#[test]
+fn a_line_may_be_longer_than_a_window(rt: HostRuntime) {
+    for (front, repeated, text) in [
+        (b"#".as_slice(), b'#', "196609"),
+        (b"n2 v1 dD u", b'a', "196609"),
+        (b"n1 v1 dD u", b'a', "9"),
+        (b"", b'\0', "file 0, byte 9: UnknownKind\n"),
+        (b" ", b'\xff', "file 0, byte 9: UnknownKind\n"),
+    ] {
+        assert_eq!(rt; long_line_text(rt.alloc(), front, repeated).as_str(), text);
+    }
 }

@@ -1,5 +1,5 @@
 //! Lines from an offset on.
-use super::{FAR, first_key, line_start};
+use super::{FAR, first_object, line_start};
 use crate::input::Broken;
 use crate::read_at::ReadAt;
 use osm_model::Memory;
@@ -46,9 +46,9 @@ fn line_text<F: ReadAt>(alloc: Global, file: &F, offset: u64, end: u64) -> Strin
         }
     };
     let _ = write!(text, "{start}: ");
-    match first_key(alloc, file, start, end) {
-        Ok(Some(key)) => {
-            let _ = write!(text, "{}", key.object.id);
+    match first_object(alloc, file, start, end) {
+        Ok(Some(object)) => {
+            let _ = write!(text, "{}", object.id);
         }
         Ok(None) => {
             let _ = text.push_str("none");

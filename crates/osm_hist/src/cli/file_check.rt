@@ -34,7 +34,6 @@ pub(super) fn check_files<'a, I: Read + Drop, O: Write + IsTerminal, E: Write + 
             status = hint::report(rt, refusal, err, flags.hints);
         }
         if let Some(line) = line_of(rt.alloc(), flags, files, *arg, &outcome)? {
-            // On a terminal control characters of the file's name are escaped.
             if out.is_terminal() {
                 print(&mut EscapedOut(out), &line)?;
             } else {
@@ -44,7 +43,6 @@ pub(super) fn check_files<'a, I: Read + Drop, O: Write + IsTerminal, E: Write + 
         if let Ok(file) = &outcome
             && flags.summary
         {
-            // If standard error fails, nothing can report it.
             let _ = writeln!(err, "{file}").and_then(|()| err.flush());
         }
     }
@@ -102,13 +100,11 @@ fn check_file<'a, I: Read + Drop>(
         (None, None) => Err(Fault::failed(0)),
     };
     refuse_changed(rt, &input)?;
-    let name = input.note.name;
-    match checked {
-        Ok(checked) => Ok(CheckedFile {
-            name,
-            bytes: size_of(&input).unwrap_or(reads.get()),
-            checked,
-        }),
-        Err(fault) => Err(Refusal::of_fault(alloc, fault, name, None)),
-    }
+    let (name, bytes) = (input.note.name, size_of(&input).unwrap_or(reads.get()));
+    let checked = checked.map_err(|fault| Refusal::of_fault(alloc, fault, name, None))?;
+    Ok(CheckedFile {
+        name,
+        bytes,
+        checked,
+    })
 }

@@ -1,6 +1,6 @@
 //! Jobs that make one file from files.
 use super::input::{OpenInput, StreamInput, open_input, refuse_changed, size_of};
-use super::request::{InputFiles, OutputRequest};
+use super::request::{OutputRequest, Request};
 use super::shard::{has_more_o5, refuse_irregular};
 use super::target::{Destination, Target, refuse_standard_output};
 use super::{Host, Refusal};
@@ -15,8 +15,8 @@ const BUFFER: usize = 65536;
 /// Returns whether o5 files are the larger part of what was sharded.
 pub(super) fn make_output<'a, I: Read + Drop, O: Write, E: Write + IsTerminal>(
     rt: &impl Host,
-    request: &OutputRequest<'a>,
-    files: &InputFiles<'a>,
+    request: &Request<'a>,
+    output: &OutputRequest<'a>,
     mut stdin: Option<I>,
     out: &mut O,
     err: &mut E,
@@ -24,8 +24,8 @@ pub(super) fn make_output<'a, I: Read + Drop, O: Write, E: Write + IsTerminal>(
     let run = Runner {
         rt,
         request,
-        files,
-        target: Target::of_arg(rt, request.name),
+        output,
+        target: Target::of_arg(rt, output.name),
         meter: Meter::new(rt, err, request.flags.progress),
     };
     run.make(&mut stdin, &mut *out)
@@ -35,8 +35,8 @@ pub(super) fn make_output<'a, I: Read + Drop, O: Write, E: Write + IsTerminal>(
 #[derive(Drop)]
 struct Runner<'a, 'q, 'f, 'r, 'e, R, E> {
     rt: &'r R,
-    request: &'q OutputRequest<'a>,
-    files: &'f InputFiles<'a>,
+    request: &'q Request<'a>,
+    output: &'f OutputRequest<'a>,
     target: Target<'a>,
     meter: Meter<'e, R, E>,
 }
@@ -52,12 +52,12 @@ impl<'a, 'q, 'f, 'r, 'e, R: Host, E: Write + IsTerminal> Runner<'a, 'q, 'f, 'r, 
         let mut streams = Vec::new(self.rt.alloc());
         let inputs = self.open(stdin, &mut streams)?;
         let inputs = inputs.as_slice();
-        let has_more_o5 = self.request.asked.shard.is_some() && has_more_o5(self.rt, inputs)?;
+        let has_more_o5 = self.output.asked.shard.is_some() && has_more_o5(self.rt, inputs)?;
         let mut destination = self.open_target(inputs, out)?;
         let counts = self.complete(inputs, streams, &mut destination)?;
         if self.request.flags.summary {
             self.meter.print(&JobSummary {
-                command: self.request.asked.command,
+                command: self.output.asked.command,
                 inputs: inputs.len(),
                 counts,
                 tally: self.meter.tally(),
@@ -74,9 +74,10 @@ impl<'a, 'q, 'f, 'r, 'e, R: Host, E: Write + IsTerminal> Runner<'a, 'q, 'f, 'r, 
         stdin: &mut Option<I>,
         streams: &mut Vec<StreamInput<I, &'m Meter<'e, R, E>>>,
     ) -> Result<Vec<OpenInput<'a, &'m Meter<'e, R, E>>>, Refusal<'a>> {
-        let (rt, files, names) = (self.rt, self.files, self.files.names.as_slice());
+        let (rt, files) = (self.rt, &self.request.files);
+        let names = files.names.as_slice();
         self.target.refuse_part(names)?;
-        if self.request.asked.shard.is_some() {
+        if self.output.asked.shard.is_some() {
             refuse_irregular(rt, names)?;
         }
         let mut inputs = Vec::new(rt.alloc());
@@ -97,7 +98,7 @@ impl<'a, 'q, 'f, 'r, 'e, R: Host, E: Write + IsTerminal> Runner<'a, 'q, 'f, 'r, 
         inputs: &[OpenInput<'a, M>],
         out: O,
     ) -> Result<Destination<'a, O>, Refusal<'a>> {
-        let mut ids = vec![in self.rt.alloc(); self.files.list]?;
+        let mut ids = vec![in self.rt.alloc(); self.request.files.list]?;
         for input in inputs {
             ids.push(input.note.id)?;
         }
@@ -126,7 +127,7 @@ impl<'a, 'q, 'f, 'r, 'e, R: Host, E: Write + IsTerminal> Runner<'a, 'q, 'f, 'r, 
         streams: Vec<StreamInput<I, M>>,
         writer: W,
     ) -> Result<Counts, Fault> {
-        let (alloc, job, mut progress) = (self.rt.alloc(), self.request.job, &self.meter);
+        let (alloc, job, mut progress) = (self.rt.alloc(), self.output.job, &self.meter);
         let mut output = Buffered::new(alloc, BUFFER, ToWrite::new(writer))?;
         let written = if self.request.flags.progress || self.request.flags.summary {
             run_inputs(alloc, job, inputs, streams, &mut output, &mut progress)

@@ -51,7 +51,6 @@ pub(super) fn advise<E: Write + IsTerminal>(hint: Option<String>, err: &mut E, i
     if let Some(hint) = hint
         && (is_asked || err.is_terminal())
     {
-        // If standard error fails, nothing can report it.
         let _ = writeln!(err, "hint: {hint}").and_then(|()| err.flush());
     }
 }

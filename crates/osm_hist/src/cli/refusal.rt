@@ -145,7 +145,6 @@ impl<'a> Refusal<'a> {
 
     /// Writes the line and returns the exit status. On a terminal the control characters of names are escaped.
     pub(crate) fn report<E: Write + IsTerminal>(&self, err: &mut E) -> u8 {
-        // If standard error fails, nothing can report it.
         let _ = match self {
             Refusal::Arguments(error) => write!(err, "{error}"),
             refusal if err.is_terminal() => {

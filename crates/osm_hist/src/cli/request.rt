@@ -31,7 +31,6 @@ pub(super) struct OutputRequest<'a> {
     pub(super) asked: FileRequest<'a>,
     /// The job for which they ask.
     pub(super) job: InputsJob,
-    pub(super) flags: Flags,
 }
 
 /// The options that have no value.
@@ -80,15 +79,12 @@ impl<'a> Request<'a> {
     ) -> Result<Request<'a>, Refusal<'a>> {
         let list = matches.get_str(LIST);
         let end = EndRule::required(matches.get_flag("whole"), matches.get_flag("ended"));
-        let output = match Command::named(name) {
-            Some(command) => Some(OutputRequest::of_matches(command, matches, end)?),
-            None => None,
-        };
+        let command = Command::named(name);
+        let output = command.map(|command| OutputRequest::of_matches(command, matches, end));
+        let output = output.transpose()?;
         let names = matches.get_strs("files").or(matches.get_strs(FILE_OR_TIME));
-        let names = match names {
-            Some(names) if list.is_none() => Vec::from_slice(alloc, names)?,
-            _ => Vec::new(alloc),
-        };
+        let names = names.filter(|_| list.is_none()).unwrap_or(&[]);
+        let names = Vec::from_slice(alloc, names)?;
         refuse_twice(names.as_slice(), false)?;
         let files = InputFiles {
             names,
@@ -159,12 +155,11 @@ impl<'a> OutputRequest<'a> {
         let format = matches
             .get_str("format")
             .and_then(|name| Format::named(name));
-        let flags = Flags::of_matches(matches);
         let asked = FileRequest {
             command,
             with_history: matches.get_flag("with-history"),
             with_deletions: matches.get_flag("with-deletions"),
-            sorted: flags.sorted,
+            sorted: matches.get_flag("sorted"),
             time: matches.get_str(time),
             end: matches.get_str(end),
             format: format.unwrap_or(DEFAULT_FORMAT),
@@ -179,7 +174,6 @@ impl<'a> OutputRequest<'a> {
             name: matches.get_str("output").unwrap_or(STANDARD),
             asked,
             job,
-            flags,
         })
     }
 }

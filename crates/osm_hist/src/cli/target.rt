@@ -171,11 +171,9 @@ fn can_be_made(rt: &impl Host, name: &str) -> bool {
 
 /// Whether `folder` has the descriptors of this process.
 fn has_descriptors(rt: &impl Host, folder: &str) -> bool {
-    match fs::canonicalize(rt, "/proc/self") {
-        Ok(own) => folder.strip_prefix(own.as_str()).is_some_and(|rest| rest == "/fd"
-            || rest.starts_with("/task/") && rest.ends_with("/fd")),
-        Err(_) => false,
-    }
+    fs::canonicalize(rt, "/proc/self").is_ok_and(|own| folder
+        .strip_prefix(own.as_str())
+        .is_some_and(|rest| rest == "/fd" || rest.starts_with("/task/") && rest.ends_with("/fd")))
 }
 
 /// An open target, whose write errors are noted.
@@ -205,11 +203,8 @@ impl<'a, O> Destination<'a, O> {
             return written;
         };
         let outcome = match written {
-            Ok(done) => match part.complete(rt, file, fsync) {
-                Ok(()) => Ok(done),
-                Err(refusal) => Err(refusal),
-            },
-            Err(refusal) => Err(refusal),
+            Ok(done) => part.complete(rt, file, fsync).map(|()| done),
+            refused => refused,
         };
         if outcome.is_err() {
             part.discard(rt);

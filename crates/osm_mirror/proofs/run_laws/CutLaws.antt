@@ -1,10 +1,9 @@
 -- The search for the offset at which a file is cut.
-use Rattle.std.proofs.Common.{◌≡◌, ◌⊎◌, inl, inr, ⊎_elim, ℕ, zero, suc, ◌+◌, ◌-◌, ◌≤◌, ◌<◌, ◌^◌, Bool, true, false, not, cond, List, []}
-use Rattle.std.proofs.Common.{◌∷◌}
-use Rattle.std.proofs.Common.{◌==◌}
+use Rattle.std.proofs.Common.{◌≡◌, ◌⊎◌, inl, inr, ⊎_elim, ℕ, zero, suc, ◌+◌, ◌-◌, ◌/◌, ◌≤◌, ◌<◌, min, Bool, true, false, not, cond, List}
+use Rattle.std.proofs.Common.{[], ◌∷◌, ◌==◌}
 use Rattle.std.proofs.Common.{◌++◌, length, take, drop, refl, sym, ap, ◌∙◌, subst, arith, Option, Some, None, IfSome, append-nil}
 use Rattle.std.proofs.Common.{append_assoc, take-append-drop, get_or}
-use Rattle.std.proofs.lemmas.Bool.{false≢true, cases_lt, not-true}
+use Rattle.std.proofs.lemmas.Bool.{false≢true, cases_lt, not-true, lt-ltb, le-ltb}
 use Rattle.std.specs.declared.cmp.Ordering.{Ordering}
 use Rattle.std.specs.declared.cmp.Ordering.TheVariants.{Less, Equal, Greater}
 use Rattle.std.specs.Ordering.{ordering_then, is_lt}
@@ -22,18 +21,19 @@ use Rattle.opl_line.proofs.CutLaws.{cut_split}
 use Rattle.osm_files.specs.declared.fault.Fault.{Fault}
 use Rattle.osm_files.specs.ReadAt.{AreAt, AreLast}
 use Rattle.osm_files.specs.FileRuns.{IsReadFailure}
-use Rattle.osm_files.specs.Lines.{after_line, lines_from, line_start_from, BeginsLine}
+use Rattle.osm_files.specs.Lines.{after_line, lines_from, line_start_from, BeginsLine, first_named, object_of_first}
 use Rattle.osm_files.specs.Opl.{is_read, OplFile}
 use Rattle.osm_files.specs.Units.{InOpl, BeforeHeader, start_of}
 use Rattle.osm_files.proofs.FileLaws.{Rises, sorted_all}
-use Rattle.osm_files.proofs.FirstLaws.{one_opl}
+use Rattle.osm_files.proofs.FirstLaws.{one_opl, first_of_versions}
 use Rattle.osm_files.proofs.JoinLaws.{SplitVersions}
-use Rattle.osm_files.proofs.LineStarts.{start_lines, start_begins, starts_rise, next_drop, one_start}
+use Rattle.osm_files.proofs.LineStarts.{start_lines, start_begins, starts_rise, next_drop, one_start, start_late}
 use Rattle.osm_files.proofs.StartLaws.{opl_starts}
 use Rattle.osm_merge.specs.Slice.{reaches, is_under}
 use Rattle.osm_mirror.specs.declared.run.lines_from.LinesFrom.{LinesFrom}
-use Rattle.osm_mirror.specs.run.Bounds.{object_of_first}
-use Rattle.osm_mirror.specs.run.CutOffset.{IsCutAt, IsCutOf, IsCutRefusal, BeginsLinesOf, BeginsAs, IsUnderBefore, first_is_under}
+use Rattle.osm_mirror.specs.run.Bounds.{first_object}
+use Rattle.osm_mirror.specs.run.CutOffset.{halved, cut_of, IsCutAt, IsCutOf, IsCutRefusal, BeginsLinesOf, BeginsAs}
+use Rattle.osm_mirror.specs.run.CutOffset.{IsUnderBefore, first_is_under}
 use Rattle.osm_mirror.specs.run.LinesFrom.{AreLines, AreLinesOf, is_below}
 use Rattle.osm_mirror.proofs.run_laws.SplitLineLaws.{split_lines, split_versions, at_end}
 
@@ -314,30 +314,85 @@ module _ (bound : Object) where
               (subst (OplFile (lines_from offset bytes)) (sym overs) low.lines),
         )
 
-  -- whether the object of the first version in the lines from an offset on is below the bound
+  -- whether the object that the lines from an offset on name first is below the bound
   abbrev IsFirstUnder : List ℕ → ℕ → Bool → Type 0
-  IsFirstUnder all offset is_below = length all < 2 ^ 62 → (versions : List VersionData) → OplFile (lines_from offset all) versions →
-      is_below ≡ first_is_under bound versions
+  IsFirstUnder all offset t = is_below bound (first_object offset all) ≡ t
 
   under_first : (versions : List VersionData) → is_below bound (object_of_first versions) ≡ first_is_under bound versions
   under_first [] = refl
   under_first (v ∷ versions) = refl
 
+  versions_under : (all : List ℕ) (offset : ℕ) (t : Bool) → IsFirstUnder all offset t → (later : List VersionData) →
+      OplFile (lines_from offset all) later → t ≡ first_is_under bound later
+  versions_under all offset t is later lines =
+      sym is ∙ ap (is_below bound) (first_of_versions (lines_from offset all) later lines) ∙ under_first later
+
   lines_under : (all : List ℕ) (lines : LinesFrom) (t : Bool) → AreLines all lines → is_below bound lines.object ≡ t →
       IsFirstUnder all lines.offset t
-  lines_under all lines t h is short versions file =
-      sym is ∙ ap (is_below bound) (h.object short versions file) ∙ under_first versions
+  lines_under all lines t h is = ap (is_below bound) (sym h.object) ∙ is
 
   -- a sorted file is cut between these offsets
   abbrev Between : List ℕ → ℕ → ℕ → Type 0
-  Between all low high = length all < 2 ^ 62 → (versions : List VersionData) → OplFile all versions → IsSorted key_cmp versions →
+  Between all low high = (versions : List VersionData) → OplFile all versions → IsSorted key_cmp versions →
       Low all versions low × High all versions high
 
-  -- The cut is between `low` and `high`. The first version from the offset before `low` on is below the bound.
+  -- the middle between two offsets
+  abbrev middle_of : ℕ → ℕ → ℕ
+  middle_of low high = low + (high - low) / 2
+
+  -- a search between these offsets ends where the search in all bytes ends
+  pub record EndsAlike (all : List ℕ) (low high : ℕ) : Type 0 where
+    pub most : ℕ
+    pub enough : high - low ≤ most
+    pub same : halved most all bound low high ≡ cut_of all bound
+
+  -- one step of the search
+  step : (all : List ℕ) (most low high : ℕ) (t : Bool) → low < high → IsFirstUnder all (middle_of low high) t →
+      halved (suc most) all bound low high
+      ≡ cond t (halved most all bound (min (line_start_from (middle_of low high) all + 1) high) high)
+      (halved most all bound low (middle_of low high))
+  step all most low high t some is =
+      let next : ℕ = halved most all bound (min (line_start_from (middle_of low high) all + 1) high) high in
+      let before : ℕ = halved most all bound low (middle_of low high) in
+      ap (λ u. cond u (cond (is_below bound (first_object (middle_of low high) all)) next before) (line_start_from high all))
+      (lt-ltb low high some)
+      ∙ ap (λ u. cond u next before) is
+
+  alike_low : (all : List ℕ) (most low high : ℕ) → low < high → high ≤ length all → IsFirstUnder all (middle_of low high) true →
+      high - low ≤ most → halved most all bound low high ≡ cut_of all bound →
+      EndsAlike all (min (line_start_from (middle_of low high) all + 1) high) high
+  alike_low all zero low high some within is enough same = absurd (omega (arith, some, enough))
+  alike_low all (suc most) low high some within is enough same =
+      let late = start_late (middle_of low high) all (omega (arith, some, within)) in
+      record {
+        most = most;
+        enough = omega (arith, late, enough, some);
+        same = sym (step all most low high true some is) ∙ same;
+      }
+
+  alike_high : (all : List ℕ) (most low high : ℕ) → low < high → IsFirstUnder all (middle_of low high) false →
+      high - low ≤ most → halved most all bound low high ≡ cut_of all bound → EndsAlike all low (middle_of low high)
+  alike_high all zero low high some is enough same = absurd (omega (arith, some, enough))
+  alike_high all (suc most) low high some is enough same = record {
+    most = most;
+    enough = omega (arith, enough, some);
+    same = sym (step all most low high false some is) ∙ same;
+  }
+
+  -- a search whose offsets have met ends
+  met : (all : List ℕ) (most low high : ℕ) → high ≤ low → halved most all bound low high ≡ line_start_from high all
+  met all zero low high over = refl
+  met all (suc most) low high over =
+      ap (λ u. cond u (cond (is_below bound (first_object (middle_of low high) all))
+      (halved most all bound (min (line_start_from (middle_of low high) all + 1) high) high)
+      (halved most all bound low (middle_of low high))) (line_start_from high all)) (le-ltb low high over)
+
+  -- The cut is between `low` and `high`. The first object from the offset before `low` on is below the bound.
   pub record Halves (all : List ℕ) (low high : ℕ) : Type 0 where
     pub within : high ≤ length all
     pub between : Between all low high
     pub last : (low ≡ 0) ⊎ IsFirstUnder all (low - 1) true
+    pub ends : EndsAlike all low high
 
   -- the same, if the file's bytes are known
   abbrev pub Halving : Option (List ℕ) → ℕ → ℕ → Type 0
@@ -351,7 +406,7 @@ module _ (bound : Object) where
     record {
       within = omega (arith, is);
       last = inl refl;
-      between = λ short versions file sorted. (
+      between = λ versions file sorted. (
         low_first all versions file sorted,
         record {
           earlier = versions;
@@ -361,68 +416,86 @@ module _ (bound : Object) where
           above = tt;
         },
       );
+      ends = record {
+        most = size;
+        enough = omega arith;
+        same = λ i. halved (is i) all bound 0 (is i);
+      };
     },
   )
 
-  -- If the first version from `middle` on is below the bound, the cut is after the start of the first line from there on.
-  pub halving_low : (bytes : Option (List ℕ)) (low middle high start next : ℕ) (lines : LinesFrom) → Halving bytes low high →
-      AreLinesOf bytes lines → lines.offset ≡ middle → is_below bound lines.object ≡ true → middle ≤ start → start < high →
-      (start ≡ middle) ⊎ (start ≤ lines.start) → next ≡ start + 1 → Halving bytes next high
-  halving_low None low middle high start next lines h are at below late near early is = (omega (arith, near, is), tt)
-  halving_low (Some all) low middle high start next lines h are at below late near early is =
+  -- If the first object from `middle` on is below the bound, the cut is after the start of the first line from there on.
+  pub halving_low : (bytes : Option (List ℕ)) (low high start next : ℕ) (lines : LinesFrom) → Halving bytes low high → low < high →
+      AreLinesOf bytes lines → lines.offset ≡ middle_of low high → is_below bound lines.object ≡ true →
+      (lines.offset ≤ lines.start → start ≡ min lines.start (high - 1)) → next ≡ start + 1 → lines.offset ≤ start → start < high →
+      Halving bytes next high
+  halving_low None low high start next lines h some are at below least is near early = (omega (arith, early, is), tt)
+  halving_low (Some all) low high start next lines h some are at below least is near early =
+      let middle : ℕ = middle_of low high in
       let first : IsFirstUnder all middle true = subst (λ n. IsFirstUnder all n true) at (lines_under all lines true are below) in
       let begins : lines.start ≡ line_start_from middle all = are.start ∙ ap (λ n. line_start_from n all) at in
+      let late = start_late lines.offset all are.within in
+      let there = least (omega (arith, late, are.start)) in
+      let one = one_start middle start all (omega (arith, near, at)) (omega (arith, there, begins)) in
       let same : lines_from middle all ≡ lines_from start all =
-      ⊎_elim (λ e. ap (λ n. lines_from n all) (sym e))
-      (λ before. let one = one_start middle start all late (omega (arith, before, begins)) in
-      sym (start_lines middle all) ∙ ap (λ n. drop n all) (sym one) ∙ start_lines start all) early in
-      let here : IsFirstUnder all start true =
-      λ short later lines. first short later (subst (λ (b : List ℕ). OplFile b later) (sym same) lines) in (
-        omega (arith, near, is),
+      sym (start_lines middle all) ∙ ap (λ n. drop n all) (sym one) ∙ start_lines start all in
+      let here : IsFirstUnder all start true = ap (λ ls. is_below bound (first_named ls)) (sym same) ∙ first in
+      let so_far = h.1.ends in (
+        omega (arith, early, is),
         record {
           within = h.1.within;
           last = let e : start ≡ next - 1 = omega (arith, is) in inr (subst (λ n. IsFirstUnder all n true) e here);
-          between = λ short versions file sorted.
+          between = λ versions file sorted.
               let e : next ≡ suc start = omega (arith, is) in (
-                rw e (low_step all versions file sorted start (λ later lines. here short later lines)),
-                (h.1.between short versions file sorted).1,
+                rw e (low_step all versions file sorted start (versions_under all start true here)),
+                (h.1.between versions file sorted).1,
               );
+          ends =
+              let e : min (line_start_from middle all + 1) high ≡ next = omega (arith, there, begins, is, some) in
+              subst (λ n. EndsAlike all n high) e
+              (alike_low all so_far.most low high some h.1.within first so_far.enough so_far.same);
         },
       )
 
-  -- If the first version from `middle` on is not below the bound, the cut is at `middle` at the latest.
-  pub halving_high : (bytes : Option (List ℕ)) (low middle high : ℕ) (lines : LinesFrom) → Halving bytes low high →
-      AreLinesOf bytes lines → lines.offset ≡ middle → is_below bound lines.object ≡ false → low ≤ middle → middle < high →
-      Halving bytes low lines.offset
-  halving_high None low middle high lines h are at below early near = (omega (arith, early, at), tt)
-  halving_high (Some all) low middle high lines h are at below early near =
-      let first : IsFirstUnder all lines.offset false = lines_under all lines false are below in (
-        omega (arith, early, at),
+  -- If the first object from `middle` on is not below the bound, the cut is at `middle` at the latest.
+  pub halving_high : (bytes : Option (List ℕ)) (low high : ℕ) (lines : LinesFrom) → Halving bytes low high → low < high →
+      AreLinesOf bytes lines → lines.offset ≡ middle_of low high → is_below bound lines.object ≡ false → Halving bytes low lines.offset
+  halving_high None low high lines h some are at below = (omega (arith, at), tt)
+  halving_high (Some all) low high lines h some are at below =
+      let first : IsFirstUnder all lines.offset false = lines_under all lines false are below in
+      let so_far = h.1.ends in (
+        omega (arith, at),
         record {
           within = are.within;
           last = h.1.last;
-          between = λ short versions file sorted. (
-            (h.1.between short versions file sorted).0,
-            high_step all versions file sorted lines.offset (λ later lines. first short later lines),
+          between = λ versions file sorted. (
+            (h.1.between versions file sorted).0,
+            high_step all versions file sorted lines.offset (versions_under all lines.offset false first),
           );
+          ends = subst (λ n. EndsAlike all low n) (sym at) (alike_high all so_far.most low high some
+              (subst (λ n. IsFirstUnder all n false) at first) so_far.enough so_far.same);
         },
       )
 
   -- When `low` reaches the lines that aren't below the bound, the first of them begins at the cut.
-  pub halved : (bytes : Option (List ℕ)) (low : ℕ) (high : LinesFrom) → Halving bytes low high.offset → high.offset ≤ low →
+  pub halving_ends : (bytes : Option (List ℕ)) (low : ℕ) (high : LinesFrom) → Halving bytes low high.offset → high.offset ≤ low →
       AreLinesOf bytes high → IsCutOf bytes bound high.start
-  halved None low high h end are = tt
-  halved (Some all) low high h end are = λ short versions file sorted.
-      let both = h.1.between short versions file sorted in
-      let e : high.offset ≡ low = omega (arith, h.0, end) in
-      let begins : high.start ≡ line_start_from low all = are.start ∙ ap (λ n. line_start_from n all) e in
-      let cut = cut_is all versions file sorted low high.start both.0 (subst (High all versions) e both.1)
-      (ap (λ n. drop n all) begins ∙ start_lines low all) in (
-        cut.0,
-        cut.1,
-        is_first all versions file sorted low high.start begins
-            (⊎_elim (λ none. inl none) (λ under_it. inr (λ later lines. sym (under_it short later lines))) h.1.last),
-      )
+  halving_ends None low high h end are = tt
+  halving_ends (Some all) low high h end are = (
+    are.start ∙ sym (met all h.1.ends.most low high.offset end) ∙ h.1.ends.same,
+    λ versions file sorted.
+        let both = h.1.between versions file sorted in
+        let e : high.offset ≡ low = omega (arith, h.0, end) in
+        let begins : high.start ≡ line_start_from low all = are.start ∙ ap (λ n. line_start_from n all) e in
+        let cut = cut_is all versions file sorted low high.start both.0 (subst (High all versions) e both.1)
+        (ap (λ n. drop n all) begins ∙ start_lines low all) in (
+          cut.0,
+          cut.1,
+          is_first all versions file sorted low high.start begins
+              (⊎_elim (λ none. inl none)
+              (λ under_it. inr (λ later lines. sym (versions_under all (low - 1) true under_it later lines))) h.1.last),
+        ),
+  )
 
 -- a line begins at the start of lines, and the bytes from there on don't begin as an o5 file does
 pub begins_of : (bytes : Option (List ℕ)) (lines : LinesFrom) → AreLinesOf bytes lines → BeginsAs bytes lines.start false →
@@ -437,7 +510,7 @@ begins_of (Some all) lines are opl = record {
 pub o5_refusal : (Fails : Type 0) (bytes : Option (List ℕ)) (lines : LinesFrom) (fault : Fault) → AreLinesOf bytes lines →
     BeginsAs bytes lines.start true → IsCutRefusal Fails bytes fault
 o5_refusal Fails None lines fault are o5 = tt
-o5_refusal Fails (Some all) lines fault are o5 = λ short. inr (λ versions file.
+o5_refusal Fails (Some all) lines fault are o5 = inr (λ versions file.
     let from = lines.offset in
     let parts = split_versions all (lines_from from all) (split_lines from all) versions file in
     let opl : start_of (drop lines.start all) ≡ InOpl =
@@ -449,7 +522,7 @@ o5_refusal Fails (Some all) lines fault are o5 = λ short. inr (λ versions file
 pub failure_refuses : (Fails : Type 0) (bytes : Option (List ℕ)) (fault : Fault) → IsReadFailure Fails fault →
     IsCutRefusal Fails bytes fault
 failure_refuses Fails None fault h = tt
-failure_refuses Fails (Some all) fault h = λ short. inl h
+failure_refuses Fails (Some all) fault h = inl h
 
 -- ---- the first byte
 -- a file that ends at an offset doesn't begin there as an o5 file does

@@ -1,5 +1,5 @@
 -- The extents of files that a job for a span reads give the slices of the files' sets, or show that a file isn't sorted.
-use Rattle.std.proofs.Common.{◌≡◌, ◌⊎◌, inl, inr, ⊎_elim, ℕ, ◌-◌, ◌≤◌, ◌<◌, ◌^◌, Bool, true, false, not, ◌&&◌, ◌||◌, cond, List, []}
+use Rattle.std.proofs.Common.{◌≡◌, ◌⊎◌, inl, inr, ⊎_elim, ℕ, ◌-◌, ◌≤◌, ◌<◌, ◌^◌, Bool, true, false, not, ◌&&◌, ◌||◌, List, []}
 use Rattle.std.proofs.Common.{◌∷◌, ◌++◌, length, take, drop, Option, Some, None, IfSome, refl, sym, ap, ◌∙◌, subst, arith, append-nil}
 use Rattle.std.specs.Cmp.{Equal-is, tied_itself}
 use Rattle.std.specs.Ordering.{eq_by_cmp, is_eq}
@@ -39,19 +39,18 @@ use Rattle.osm_merge.specs.declared.within.Outside.{Outside}
 use Rattle.osm_merge.specs.declared.within.Outside.TheVariants.{Dropped, Refused}
 use Rattle.osm_merge.specs.Slice.{slice_of, is_within, is_under, is_ascending}
 use Rattle.osm_merge.specs.ToCome as source
-use Rattle.osm_merge.specs.Within.{up_to, from_bound, stray_fault}
+use Rattle.osm_merge.specs.Within.{from_bound, stray_fault}
 use Rattle.osm_merge.proofs.SliceLaws.{kept_in, under_down, none_after}
 use Rattle.osm_files.proofs.SpellLaws.{equal_sets as equal}
 use Rattle.osm_mirror.specs.declared.run.shard_extent.FileExtent.{FileExtent}
 use Rattle.std.proofs.Common.{Result, Ok, Err, IfOk}
 use Rattle.osm_model.specs.declared.object.Object.{Object}
 use Rattle.osm_mirror.specs.run.CutOffset.{BeginsAs, BeginsLinesOf, IsCutOf, IsCutRefusal}
-use Rattle.osm_mirror.specs.run.ShardExtent.{lines_between, IsFileExtent, IsExtentOf, BeginsAtOf, EndsAtOf}
+use Rattle.osm_mirror.specs.run.ShardExtent.{is_read_whole, outside_if, lines_between, IsFileExtent, IsExtentOf, BeginsAtOf, EndsAtOf}
 use Rattle.osm_mirror.specs.run.Merge.{GivesSorted}
 use Rattle.osm_mirror.specs.run.ShardRefusal.{IsFileRefusal}
 use Rattle.osm_mirror.specs.run.SliceJob.{given_slice, IsPartRead, HasSlice, GivesSlice}
-use Rattle.osm_mirror.proofs.run_laws.InputRefusalLaws.{has_number}
-use Rattle.osm_mirror.specs.declared.run.files_job.Order.TheVariants.{Sorted}
+use Rattle.osm_mirror.proofs.run_laws.InputRefusalLaws.{up_to_refused}
 use Rattle.osm_mirror.proofs.run_laws.ShardExtentLaws.{part_holds, part_rises}
 use Rattle.osm_mirror.proofs.run_laws.ProbeLaws.{opl_is, opl_starts, probe_refuses}
 use Rattle.osm_mirror.proofs.fleet_laws.MergesLaws.{as_held}
@@ -59,33 +58,37 @@ use Rattle.osm_mirror.proofs.run_laws.SourceLaws.{slices_are_within}
 
 -- ---- the extent of a file
 pub lines_part : (known : Option (List ℕ)) (span : Span) (size_is start end : ℕ) → BeginsAs known 0 false →
-    IfSome known (λ all. size_is ≡ length all) → BeginsAtOf known span.from start → EndsAtOf known span.to end → start ≤ end →
+    IfSome known (λ all. false ≡ is_read_whole all) → IfSome known (λ all. size_is ≡ length all) → BeginsAtOf known span.from start →
+    EndsAtOf known span.to end → start ≤ end →
     IsExtentOf span known (record { run = lines_between start end; size = size_is; outside = Refused })
-lines_part None span size_is start end h is begins ends up = tt
-lines_part (Some all) span size_is start end h is begins ends up = λ short. record {
+lines_part None span size_is start end h by_lines is begins ends up = tt
+lines_part (Some all) span size_is start end h by_lines is begins ends up = record {
   size = sym is;
+  outside = ap outside_if by_lines;
   read = inr (record {
     opl = opl_is all false h;
     outside = refl;
-    run = (start, end, refl, record { begins = begins short; ends = ends short; ascends = up });
+    run = (start, end, refl, record { begins = begins; ends = ends; ascends = up });
   });
 }
 
-pub whole_extent : (known : Option (List ℕ)) (span : Span) (size_is : ℕ) (run : SortedRun) → IfSome known (λ all. size_is ≡ length all) →
-    run ≡ whole_run → IsExtentOf span known (record { run = run; size = size_is; outside = Dropped })
-whole_extent None span size_is run is whole = tt
-whole_extent (Some all) span size_is run is whole = λ short. record { size = sym is; read = inl (refl, whole) }
+pub whole_extent : (known : Option (List ℕ)) (span : Span) (size_is : ℕ) (run : SortedRun) →
+    IfSome known (λ all. true ≡ is_read_whole all) → IfSome known (λ all. size_is ≡ length all) → run ≡ whole_run →
+    IsExtentOf span known (record { run = run; size = size_is; outside = Dropped })
+whole_extent None span size_is run whole is run_is = tt
+whole_extent (Some all) span size_is run whole is run_is =
+    record { size = sym is; outside = ap outside_if whole; read = inl (refl, run_is) }
 
 -- a cut at which a line begins is where the extent of a file begins or ends
 pub cut_begins : (known : Option (List ℕ)) (bound : Object) (start : ℕ) → IsCutOf known bound start → BeginsLinesOf known start →
     BeginsAtOf known (Some bound) start
 cut_begins None bound start cut begins = tt
-cut_begins (Some all) bound start cut begins = λ short. (cut short, begins)
+cut_begins (Some all) bound start cut begins = (cut.1, begins, cut.0)
 
 pub cut_ends : (known : Option (List ℕ)) (bound : Object) (end : ℕ) → IsCutOf known bound end → BeginsLinesOf known end →
     EndsAtOf known (Some bound) end
 cut_ends None bound end cut begins = tt
-cut_ends (Some all) bound end cut begins = λ short. (cut short, begins)
+cut_ends (Some all) bound end cut begins = (cut.1, begins, cut.0)
 
 pub both_ok : {E : Type 0} (P Q R : ℕ → Type 0) → ((n : ℕ) → P n → Q n → R n) → (result : Result ℕ E) → IfOk result P →
     IfOk result Q → IfOk result R
@@ -105,7 +108,7 @@ pub part_falls : (Fails : Type 0) (known : Option (List ℕ)) (span : Span) (sta
     IsFileRefusal Fails known fault
 part_falls Fails None span start end fault rises opl begins ends down = inr tt
 part_falls Fails (Some all) span start end fault rises opl begins ends down = inr (λ held h.
-    let up = part_rises span all start end held rises (opl_starts all (opl_is all false opl)) h (begins h.short) (ends h.short) in
+    let up = part_rises span all start end held rises (opl_starts all (opl_is all false opl)) h begins ends in
     absurd (omega (arith, up, down)))
 
 -- ---- lists of versions
@@ -209,19 +212,6 @@ front_slice span set front rest are over =
     ∙ sym (contains-listed set v))
     ∙ sym (kept_in set p v))
 
--- a rest that is refused before it ends is refused with the refusal of all versions, or because a version fails the test
-up_to_refused : (p : VersionData → Bool) (end : source.VersionsToCome) (r : Option Fault) (versions : List VersionData) (fault : Fault)
-    → (up_to p end r versions).refusal ≡ Some fault
-    → (r ≡ Some fault) ⊎ ((end.refusal ≡ Some fault) × (list_any (λ v. not (p v)) versions ≡ true))
-up_to_refused p end r [] fault h = inl h
-up_to_refused p end r (v ∷ versions) fault h =
-    elim (p v) as (λ t. (cond t (record { list = v ∷ (up_to p end r versions).list; refusal = (up_to p end r versions).refusal })
-    end).refusal
-    ≡ Some fault → (r ≡ Some fault) ⊎ ((end.refusal ≡ Some fault) × ((not t || list_any (λ w. not (p w)) versions) ≡ true))) [
-      | true ↦ λ k. up_to_refused p end r versions fault k
-      | false ↦ λ k. inr (k, refl)
-    ] h
-
 -- ---- the bytes of an extent
 whole_bytes : (all : List ℕ) → length all < 2 ^ 62 → run_bytes whole_run all ≡ all
 whole_bytes all short = append-nil (take (2 ^ 64 - 1) all) ∙ take_all (2 ^ 64 - 1) all (omega (arith, short))
@@ -256,12 +246,12 @@ module _ (span : Span) (all : List ℕ) (extent : FileExtent) (set : VersionSet)
       }) is.read
 
 -- ---- what the input of an extent gives
-module _ (span : Span) (Fails : Type 0) (all : List ℕ) (extent : FileExtent) (part_is : length all < 2 ^ 62 → IsFileExtent span all extent)
+module _ (span : Span) (Fails : Type 0) (all : List ℕ) (extent : FileExtent) (part_is : IsFileExtent span all extent)
     (outside : Outside) (outside_is : outside ≡ extent.outside) where
   -- ---- a sorted file
   module _ (set : VersionSet) (h : HoldsSorted all set) where
     is : IsFileExtent span all extent
-    is = part_is h.short
+    is = part_is
 
     p : PartHolds span all extent set
     p = holds_part span all extent set is h
@@ -382,22 +372,4 @@ module _ (span : Span) (Fails : Type 0) (all : List ℕ) (extent : FileExtent) (
   pub fault_is : (number : ℕ) (given : Outside × InputRest) (fault : Fault) → given.0 ≡ outside
       → RunCanGive Fails (Some all) extent.run extent.size given.1 → (given_slice span number given).refusal ≡ Some fault
       → IsReadFailure Fails fault ⊎ ((held : VersionSet) → HoldsSorted all held → ⊥)
-  fault_is number given fault e gives refused =
-      ⊎_elim (λ short. part_fault number given fault e gives (part_is short).size refused)
-      (λ long. inr (λ held h. (let short = h.short in absurd (omega (arith, short, long)))))
-      (cases_lt (length all) (2 ^ 62))
-
--- the fault of an input within a span has its number
-pub slice_number : (span : Span) (number : ℕ) (given : Outside × InputRest) (fault : Fault)
-    → (given_slice span number given).refusal ≡ Some fault → fault.input ≡ number
-slice_number span number (Dropped, c) fault refused =
-    ⊎_elim (λ r. has_number Sorted number c fault r)
-    (λ (none, over). absurd (let no : None ≡ Some fault = none in cc))
-    (up_to_refused (is_under span.to) end_whole (from_bound span (sorted_source number c)).refusal
-    (from_bound span (sorted_source number c)).list fault refused)
-slice_number span number (Refused, c) fault refused =
-    ⊎_elim (λ r. has_number Sorted number c fault r)
-    (λ (is_stray, stray). (let same : stray_fault number ≡ fault = (let s : Some (stray_fault number) ≡ Some fault = is_stray in cc) in
-    ap (λ f. f.input) (sym same)))
-    (up_to_refused (is_within span.from span.to) (end_refused (stray_fault number)) (sorted_source number c).refusal
-    (sorted_source number c).list fault refused)
+  fault_is number given fault e gives refused = part_fault number given fault e gives part_is.size refused

@@ -19,7 +19,7 @@ use Rattle.osm_files.specs.FileRuns.{IsSortedRun}
 use Rattle.osm_files.specs.Held.{Holds}
 use Rattle.osm_files.specs.Input.{InputRest}
 use Rattle.osm_files.specs.Output.{Change, Appends}
-use Rattle.osm_files.specs.Sink.{CutShort, WhyCut}
+use Rattle.osm_files.specs.Sink.{CutShort}
 use Rattle.osm_files.specs.Stream.{verdict_at}
 use Rattle.osm_files.specs.SortedRun.{run_bytes, whole_run}
 use Rattle.osm_files.specs.Spell.{spell}
@@ -30,6 +30,7 @@ use Rattle.osm_files.proofs.RunOrderLaws.{broken_fails}
 use Rattle.osm_files.proofs.SplitLaws.{whole_file}
 use Rattle.osm_merge.specs.Giving.{AllGive, SomeInputsGive}
 use Rattle.osm_merge.specs.Selected.{selection_of}
+use Rattle.osm_merge.proofs.UnionLaws.{nothing_appended}
 use Rattle.osm_mirror.specs.declared.run.file_way.FileWay.{FileWay}
 use Rattle.osm_mirror.specs.declared.run.files_job.FilesJob.{FilesJob}
 use Rattle.osm_mirror.specs.declared.run.files_job.JobFile.{JobFile}
@@ -38,18 +39,20 @@ use Rattle.osm_mirror.specs.declared.run.files_job.Order.{Order}
 use Rattle.osm_mirror.specs.declared.run.files_job.Order.TheVariants.{Sorted, Any}
 use Rattle.osm_mirror.specs.declared.run.input.InputFile.{InputFile}
 use Rattle.osm_mirror.specs.declared.run.input.ReadAs.{ReadAs}
+use Rattle.osm_mirror.specs.declared.run.input.ReadAs.TheVariants.{InOrder}
 use Rattle.osm_mirror.specs.run.FilesRefusal.{AreSettled, IsFaultIn, IsFaultOf, IsFaultAmong, AreRefused, IsGood, IsCutIfGood, IsLong}
 use Rattle.osm_mirror.specs.run.FilesRefusal.{IsOutputFault}
 use Rattle.osm_mirror.specs.run.FilesRefusal.{IsFaultInWays, RefusesTurn}
-use Rattle.osm_mirror.specs.run.FilesJob.{read_as_of, HoldsAs, IsWayOf, FitsBytes, FileFits, FilesFit, OpensRun, OpensFile}
+use Rattle.osm_mirror.specs.run.FilesJob.{HoldsAs, IsWayOf, FitsBytes, FileFits, FilesFit, OpensRun, OpensFile}
 use Rattle.osm_mirror.specs.run.FilesJob.{OpensFiles, fault_in_files}
 use Rattle.osm_mirror.specs.run.Given.{InputFileCanGive, GivesAs, IsFileAs}
 use Rattle.osm_mirror.specs.run.Job.{union_of}
 use Rattle.osm_mirror.specs.run.SelectedJob.{RefusesJob, IsJobRefused}
 use Rattle.osm_mirror.specs.run.SortedRuns.{SortedRunsHoldTheFile}
+use Rattle.osm_mirror.specs.run.WaysJob.{RefusesInWays}
 use Rattle.osm_mirror.proofs.run_laws.FilesRefusalLaws.{fault_found, output_found, memory_found}
 use Rattle.osm_mirror.proofs.run_laws.InputRefusalLaws.{SomeRefused, AnyWay, Streamed, refused_at, unread_refused}
-use Rattle.osm_mirror.proofs.run_laws.OutputFaultLaws.{cut_why, long_of}
+use Rattle.osm_mirror.proofs.run_laws.OutputFaultLaws.{cut_moved, cut_why, long_of}
 use Rattle.osm_mirror.proofs.run_laws.FilesRefusalLaws.{Found}
 use Rattle.osm_mirror.proofs.run_laws.FilesRefusalLaws.{stream_gave}
 use Rattle.osm_mirror.proofs.run_laws.FilesJobLaws.{cut, as_pairs, as_given, as_any, plain_given}
@@ -59,12 +62,12 @@ use Rattle.osm_mirror.proofs.run_laws.UnionOfLaws.{union_of_one, union_of_front}
 -- ---- one input
 -- an input that gives the bytes of a file of this order is that file
 as_input : (order : Order) (c : InputRest) (held : VersionSet) → c.failure ≡ None → HoldsAs order c.bytes held
-    → IsFileAs (read_as_of order, c) held
+    → IsFileAs (InOrder order, c) held
 as_input Sorted c held unbroken h = record { unbroken = unbroken; file = h }
 as_input Any c held unbroken h = record { unbroken = unbroken; file = h }
 
-given_as_file : (order : Order) (c : InputRest) (held : VersionSet) → GivesAs (read_as_of order, c) held
-    → IsFileAs (read_as_of order, c) held
+given_as_file : (order : Order) (c : InputRest) (held : VersionSet) → GivesAs (InOrder order, c) held
+    → IsFileAs (InOrder order, c) held
 given_as_file Sorted c held h = h
 given_as_file Any c held h = h
 
@@ -86,8 +89,8 @@ pub record Accepted (given : List (ReadAs × InputRest)) (held : VersionSet) : T
   pub files : Pairwise IsFileAs given sets
   pub union : union_of sets ≡ held
 
-one_input : (order : Order) (c : InputRest) (held : VersionSet) (given : List (ReadAs × InputRest)) → given ≡ (read_as_of order, c) ∷ []
-    → IsFileAs (read_as_of order, c) held → Accepted given held
+one_input : (order : Order) (c : InputRest) (held : VersionSet) (given : List (ReadAs × InputRest)) → given ≡ (InOrder order, c) ∷ []
+    → IsFileAs (InOrder order, c) held → Accepted given held
 one_input order c held given is file = record {
   sets = held ∷ [];
   files = subst (λ (xs : List (ReadAs × InputRest)). Pairwise IsFileAs xs (held ∷ [])) (sym is) (file, tt);
@@ -98,13 +101,13 @@ one_input order c held given is file = record {
 module _ {I : Type 0} (gives : I → InputRest → Type 0) (Fails : Type 0) (never : Fails → ⊥) (all : List ℕ) (size : ℕ)
     (long : length all ≡ size) where
   abbrev Opens : Order → InputFile I → SortedRun → Type 0
-  Opens order = OpensRun gives Fails (Some all) size order
+  Opens order = OpensRun gives Fails (Some all) size (InOrder order)
 
   run_unbroken : (run : SortedRun) (c : InputRest) → RunCanGive Fails (Some all) run size c → c.failure ≡ None
   run_unbroken run c gave = never_failed c.failure (λ reason failed. never (broken_fails Fails all run size c long gave reason failed).0)
 
   run_is_file : (order : Order) (run : SortedRun) (c : InputRest) (held : VersionSet) → RunCanGive Fails (Some all) run size c
-      → HoldsAs order (run_bytes run all) held → IsFileAs (read_as_of order, c) held
+      → HoldsAs order (run_bytes run all) held → IsFileAs (InOrder order, c) held
   run_is_file order run c held gave h =
       let unbroken = run_unbroken run c gave in
       as_input order c held unbroken (subst (λ (bytes : List ℕ). HoldsAs order bytes held) (sym (run_given Fails all run size c long gave
@@ -120,7 +123,7 @@ module _ {I : Type 0} (gives : I → InputRest → Type 0) (Fails : Type 0) (nev
   whole_accepted order held (i ∷ []) [] short h opens g = absurd g
   whole_accepted order held (i ∷ []) (x ∷ y ∷ given) short h opens g = absurd g.1
   whole_accepted order held (i ∷ []) ((how, c) ∷ []) short h opens g =
-      one_input order c held ((how, c) ∷ []) (ap (λ (x : ReadAs). (x, c) ∷ []) (sym g.0.0 ∙ opens.0.order_is))
+      one_input order c held ((how, c) ∷ []) (ap (λ (x : ReadAs). (x, c) ∷ []) (sym g.0.0 ∙ opens.0.read_as_is))
       (run_is_file order whole_run c held (opens.0.gives_run c (plain_given gives i how c opens.0.end_is g.0))
       (subst (λ (bytes : List ℕ). HoldsAs order bytes held) (sym (whole_file all short)) h))
 
@@ -144,7 +147,7 @@ module _ {I : Type 0} (gives : I → InputRest → Type 0) (Fails : Type 0) (nev
       record {
         sets = one.0 ∷ more.sets;
         files = (
-          subst (λ (h : ReadAs). IsFileAs (h, c) one.0) (sym (sym g.0.0 ∙ opens.0.order_is))
+          subst (λ (h : ReadAs). IsFileAs (h, c) one.0) (sym (sym g.0.0 ∙ opens.0.read_as_is))
               (run_is_file Sorted run c one.0 (opens.0.gives_run c (plain_given gives i how c opens.0.end_is g.0)) one.1),
           more.files,
         );
@@ -155,18 +158,18 @@ module _ {F R I : Type 0} (fails : F → Type 0) (bytes : F → Option (List ℕ
     (gives : I → InputRest → Type 0) (order : Order) (law : SortedRunsHoldTheFile) where
   known_accepted : (Fails : Type 0) (way : FileWay) (inputs : List (InputFile I)) (given : List (ReadAs × InputRest)) (held : VersionSet)
       (all : List ℕ) → (Fails → ⊥) → HoldsAs order all held → way.may_be_split ≡ false → IsWayOf order (Some all) way
-      → FitsBytes (Some all) way → Pairwise (OpensRun gives Fails (Some all) way.size way.order) inputs way.runs.items
+      → FitsBytes (Some all) way → Pairwise (OpensRun gives Fails (Some all) way.size way.read_as) inputs way.runs.items
       → AllGive (InputFileCanGive gives) inputs given → Accepted given held
   known_accepted Fails way inputs given held all never h settled (inl (whole, o, same)) (short, (long, split)) opens g =
       whole_accepted gives Fails never all way.size long order held inputs given (omega (arith, short, long)) h
-      (subst (λ (x : Order). Pairwise (OpensRun gives Fails (Some all) way.size x) inputs (whole_run ∷ [])) o
-      (subst (Pairwise (OpensRun gives Fails (Some all) way.size way.order) inputs) whole opens)) g
+      (subst (λ (x : ReadAs). Pairwise (OpensRun gives Fails (Some all) way.size x) inputs (whole_run ∷ [])) o
+      (subst (Pairwise (OpensRun gives Fails (Some all) way.size way.read_as) inputs) whole opens)) g
   known_accepted Fails way inputs given held all never h settled (inr (inl (any, (whole, o, may)))) fits opens g =
       absurd (false≢true (sym settled ∙ may))
   known_accepted Fails way inputs given held all never h settled (inr (inr (any, (o, same, runs)))) (short, (long, split)) opens g =
       let holds : Holds all held = as_any order all held h in
       let accepted = runs_accepted gives Fails never all way.size long inputs way.runs.items given (runs (held, holds))
-      (subst (λ (x : Order). Pairwise (OpensRun gives Fails (Some all) way.size x) inputs way.runs.items) o opens) g in
+      (subst (λ (x : ReadAs). Pairwise (OpensRun gives Fails (Some all) way.size x) inputs way.runs.items) o opens) g in
       record {
         sets = accepted.sets;
         files = accepted.files;
@@ -182,7 +185,7 @@ module _ {F R I : Type 0} (fails : F → Type 0) (bytes : F → Option (List ℕ
       known_accepted (fails f.now) way inputs given held all never h settled
       (subst (λ (k : Option (List ℕ)). IsWayOf order k way) known fits.0)
       (subst (λ (k : Option (List ℕ)). FitsBytes k way) known fits.1)
-      (subst (λ (k : Option (List ℕ)). Pairwise (OpensRun gives (fails f.now) k way.size way.order) inputs way.runs.items) known opens) g
+      (subst (λ (k : Option (List ℕ)). Pairwise (OpensRun gives (fails f.now) k way.size way.read_as) inputs way.runs.items) known opens) g
   file_accepted (Stream r end) way inputs given held good settled fits opens g =
       let gave = stream_gave fails bytes can gives order r end way inputs given fits opens g in
       one_input order (by_rule end gave.c) held given gave.only (given_as_file order (by_rule end gave.c) held (good gave.c gave.gave))
@@ -233,7 +236,7 @@ module _ {F R : Type 0} (fails : F → Type 0) (bytes : F → Option (List ℕ))
       bytes_not_refused order (fails f.now) all held fault never h
       (subst (λ (k : Option (List ℕ)). IsFaultIn order (fails f.now) k fault) known refused)
   good_not_refused order (Stream r end) held fault good (c, gave, (input, e)) =
-      let whole = source_laws.as_given input (read_as_of order, by_rule end c) held
+      let whole = source_laws.as_given input (InOrder order, by_rule end c) held
       (given_as_file order (by_rule end c) held (good c gave)) in
       (let f : None ≡ Some (record fault { input = input }) = sym whole.0 ∙ e in cc)
 
@@ -266,7 +269,7 @@ module _ {F R : Type 0} (fails : F → Type 0) (bytes : F → Option (List ℕ))
 
 -- ---- one turn
 -- an input of a file that isn't read to its end first is read in order
-streamed_order : {P : Type 0} (o : Order) → Streamed (read_as_of o) → (o ≡ Sorted) ⊎ P
+streamed_order : {P : Type 0} (o : Order) → Streamed (InOrder o) → (o ≡ Sorted) ⊎ P
 streamed_order Sorted streamed = inl refl
 streamed_order Any streamed = absurd (streamed refl)
 
@@ -280,7 +283,7 @@ module _ {F R I O : Type 0} (fails : F → Type 0) (bytes : F → Option (List �
 
   module _ (given : List (ReadAs × InputRest)) (g : AllGive (InputFileCanGive gives) inputs given) where
     module _ (Ways : ReadAs → Type 0) (Unwritten : Type 0)
-        (before_all : (o : Order) → Ways (read_as_of o) → (o ≡ Sorted) ⊎ Unwritten) where
+        (before_all : (o : Order) → Ways (InOrder o) → (o ≡ Sorted) ⊎ Unwritten) where
       in_ways : Found fails bytes can gives job.order Ways 0 files ways Moved
           → IsFaultInWays fails bytes can job.order files ways Unwritten Moved
       in_ways f =
@@ -290,7 +293,8 @@ module _ {F R I O : Type 0} (fails : F → Type 0) (bytes : F → Option (List �
             file_is = subst (λ (k : ℕ). slice_get files k ≡ Some f.file) index f.file_is;
             way_is = subst (λ (k : ℕ). slice_get ways k ≡ Some f.way) index f.way_is;
             fault_is = f.fault_is;
-            unwritten = before_all f.way.order f.among;
+            unwritten = ⊎_elim (λ sorted. inl (f.ordered.1 ∙ ap InOrder sorted)) (λ before. inr before)
+                (before_all f.ordered.0 (subst Ways f.ordered.1 f.among));
           }
 
       some_refused : SomeRefused Ways 0 given fault
@@ -308,26 +312,9 @@ module _ {F R I O : Type 0} (fails : F → Type 0) (bytes : F → Option (List �
         output_found fails bytes can gives job.order files ways inputs given 0 fault.input fault is fits opens g
         ∙ ap (λ (n : ℕ). fault_at n fault.place fault.reason) same
 
-    why_moved : (spelled : List ℕ) (count : ℕ) (failed : Bool) → WhyCut (length given) spelled count failed fault
-        → WhyCut (length files) spelled count failed Moved
-    why_moved spelled count failed (inl memory) = inl (memory_found 0 ways fault.input fault (ap (λ f. f.reason) memory))
-    why_moved spelled count failed (inr (inl (is, fails))) = inr (inl (
-      of_output (ap (λ f. f.input) is) ∙ (λ i. fault_at (length files) (is i).place (is i).reason),
-      fails,
-    ))
-    why_moved spelled count failed (inr (inr (is, long))) = inr (inr (
-      of_output (ap (λ f. f.input) is) ∙ (λ i. fault_at (length files) (is i).place (is i).reason),
-      long,
-    ))
-
-    cut_moved : (change : Change) (spelled : List ℕ) → CutShort (length given) change spelled fault
+    moved_cut : (change : Change) (spelled : List ℕ) → CutShort (length given) change spelled fault
         → CutShort (length files) change spelled Moved
-    cut_moved change spelled c = record {
-      count = c.count;
-      within = c.within;
-      appended = c.appended;
-      why = why_moved spelled c.count change.failed c.why;
-    }
+    moved_cut = cut_moved (length given) (length files) fault Moved (λ memory. memory_found 0 ways fault.input fault memory) of_output
 
     abbrev Long : Type 0
     Long = AreSettled ways → IsLong fails bytes can job files
@@ -346,7 +333,7 @@ module _ {F R I O : Type 0} (fails : F → Type 0) (bytes : F → Option (List �
         of_inputs (some_refused AnyWay (after ≡ before) (λ o any. inr same) (unread_refused 0 given fault unread))
     turn_why long (inr (inr (read, inl c))) =
         ⊎_elim (λ memory. inl memory) (λ found. inr (inr found))
-        (cut_why (length files) (change_of output before after) _ Moved Long long (cut_moved (change_of output before after) _ c))
+        (cut_why (length files) (change_of output before after) _ Moved Long long (moved_cut (change_of output before after) _ c))
     turn_why long (inr (inr (read, inr f))) =
         of_inputs (some_refused Streamed (after ≡ before) streamed_order (refused_at 0 given f.index fault read f.within f.refusal))
 
@@ -361,7 +348,7 @@ module _ {F R I O : Type 0} (fails : F → Type 0) (bytes : F → Option (List �
       let a = files_accepted fails bytes can gives job.order law files ways inputs given held good settled fits opens g in
       subst (λ (s : VersionSet). CutShort (length files) change
       (spell job.format (selection_of job.selection s)) Moved) a.union
-      (cut_moved given g change (spell job.format (selection_of job.selection (union_of a.sets)))
+      (moved_cut given g change (spell job.format (selection_of job.selection (union_of a.sets)))
       (refused.cut a.sets a.files)))) in
       record {
         why = turn_why given g
@@ -370,3 +357,19 @@ module _ {F R I O : Type 0} (fails : F → Type 0) (bytes : F → Option (List �
             long_of (length files) _ c.count change.failed Moved c.why (ap (λ f. f.reason) is))) refused.why;
         cut = cut;
       }
+
+module _ {F R I O : Type 0} (fails : F → Type 0) (bytes : F → Option (List ℕ)) (can : R → InputRest → Type 0)
+    (gives : I → InputRest → Type 0) (output : Ghosts O) (job : FilesJob) (files : List (JobFile F R)) (ways : List FileWay)
+    (fits : FilesFit bytes job.order files ways) (law : SortedRunsHoldTheFile) (before : O) where
+  -- A job over files that are read in their ways is refused as a turn.
+  pub refused_in_ways : (after : O) (fault : Fault) → RefusesInWays fails bytes can gives files ways job output before after fault
+      → RefusesTurn fails bytes can output job files ways before after fault
+  refused_in_ways after fault (inl (memory, same)) =
+      subst (λ (o : O). RefusesTurn fails bytes can output job files ways before o fault) (sym same) (record {
+        why = inl memory;
+        cut = λ settled. nothing_cut fails bytes can job files (change_of output before before) fault
+            (nothing_appended (output.holds before)) (inl memory);
+      })
+  refused_in_ways after fault (inr r) =
+      subst (RefusesTurn fails bytes can output job files ways before after) (sym r.fault_is)
+      (turn_refused fails bytes can gives output job files ways r.inputs fits r.opens before after r.found r.small law r.refused)

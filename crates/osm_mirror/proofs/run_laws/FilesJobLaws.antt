@@ -30,7 +30,8 @@ use Rattle.osm_mirror.specs.declared.run.files_job.Order.{Order}
 use Rattle.osm_mirror.specs.declared.run.files_job.Order.TheVariants.{Sorted, Any}
 use Rattle.osm_mirror.specs.declared.run.input.InputFile.{InputFile}
 use Rattle.osm_mirror.specs.declared.run.input.ReadAs.{ReadAs}
-use Rattle.osm_mirror.specs.run.FilesJob.{read_as_of, HoldsAs, FileHolds, IsFilesJob, IsAsRequired, IsWayOf, FitsBytes, FileFits, FilesFit}
+use Rattle.osm_mirror.specs.declared.run.input.ReadAs.TheVariants.{InOrder}
+use Rattle.osm_mirror.specs.run.FilesJob.{HoldsAs, FileHolds, IsFilesJob, IsAsRequired, IsWayOf, FitsBytes, FileFits, FilesFit}
 use Rattle.osm_mirror.specs.run.FilesJob.{OpensRun, OpensFile, OpensFiles}
 use Rattle.osm_mirror.specs.run.Given.{InputFileCanGive, GivesAs, GivesFile}
 use Rattle.osm_mirror.specs.run.Job.{union_of}
@@ -148,11 +149,11 @@ pub plain_given : {I : Type 0} (gives : I → InputRest → Type 0) (input : Inp
 plain_given gives input how c plain (same, (given, could, is)) =
     subst (gives input.reader) (sym (is ∙ ap (λ (e : EndRule). by_rule e given) plain)) could
 
-as_held : (order : Order) (c : InputRest) (held : VersionSet) → GivesAs (read_as_of order, c) held → HoldsAs order c.bytes held
+as_held : (order : Order) (c : InputRest) (held : VersionSet) → GivesAs (InOrder order, c) held → HoldsAs order c.bytes held
 as_held Sorted c held h = h.file
 as_held Any c held h = h.file
 
-as_file : (order : Order) (c : InputRest) (held : VersionSet) → GivesAs (read_as_of order, c) held → GivesFile c held
+as_file : (order : Order) (c : InputRest) (held : VersionSet) → GivesAs (InOrder order, c) held → GivesFile c held
 as_file Sorted c held h = record {
   unbroken = h.unbroken;
   file = record { short = h.file.short; versions = h.file.versions; file = h.file.file; members = h.file.members };
@@ -166,12 +167,12 @@ as_any Any bytes held h = h
 module _ {I : Type 0} (gives : I → InputRest → Type 0) (Fails : Type 0) (all : List ℕ) (size_is : ℕ) (length_is : length all ≡ size_is)
     (order : Order) where
   abbrev Opens : InputFile I → SortedRun → Type 0
-  Opens = OpensRun gives Fails (Some all) size_is order
+  Opens = OpensRun gives Fails (Some all) size_is (InOrder order)
 
   run_holds : (input : InputFile I) (run : SortedRun) → Opens input run → (how : ReadAs) (c : InputRest)
       (held : VersionSet) → input.read_as ≡ how → gives input.reader c → GivesAs (how, c) held → HoldsAs order (run_bytes run all) held
   run_holds input run opens how c held same given accepted =
-      let well : GivesAs (read_as_of order, c) held = subst (λ (h : ReadAs). GivesAs (h, c) held) (sym same ∙ opens.order_is) accepted in
+      let well : GivesAs (InOrder order, c) held = subst (λ (h : ReadAs). GivesAs (h, c) held) (sym same ∙ opens.read_as_is) accepted in
       let f = as_file order c held well in
       subst (λ (bytes : List ℕ). HoldsAs order bytes held)
       (run_given Fails all run size_is c length_is (opens.gives_run c given) f.unbroken) (as_held order c held well)
@@ -214,12 +215,17 @@ module _ {I : Type 0} (gives : I → InputRest → Type 0) (Fails : Type 0) (way
     given)
     (p : Pairwise GivesAs given held) where
   abbrev Opened : Option (List ℕ) → Type 0
-  Opened known = Pairwise (OpensRun gives Fails known way.size way.order) inputs way.runs.items
+  Opened known = Pairwise (OpensRun gives Fails known way.size way.read_as) inputs way.runs.items
 
-  runs_are_file : (all : List ℕ) → FitsBytes (Some all) way → Opened (Some all) → Holds all (union_of held)
-  runs_are_file all (short, (long, split)) opens =
+  opened_as : (all : List ℕ) (how : ReadAs) → way.read_as ≡ how → Opened (Some all)
+      → Pairwise (OpensRun gives Fails (Some all) way.size how) inputs way.runs.items
+  opened_as all how is opens = subst (λ (h : ReadAs). Pairwise (OpensRun gives Fails (Some all) way.size h) inputs way.runs.items) is opens
+
+  runs_are_file : (all : List ℕ) → way.read_as ≡ InOrder Sorted → FitsBytes (Some all) way → Opened (Some all)
+      → Holds all (union_of held)
+  runs_are_file all sorted (short, (long, split)) opens =
       law all (map (λ run. run_bytes run all) way.runs.items) held (omega (arith, short, long)) split
-      (runs_hold gives Fails all way.size long way.order inputs way.runs.items given held opens g p)
+      (runs_hold gives Fails all way.size long Sorted inputs way.runs.items given held (opened_as all (InOrder Sorted) sorted opens) g p)
 
   any_holds : (all : List ℕ) → order ≡ Any → Holds all (union_of held) → HoldsAs order all (union_of held)
   any_holds all any h = subst (λ (o : Order). HoldsAs o all (union_of held)) (sym any) h
@@ -227,11 +233,11 @@ module _ {I : Type 0} (gives : I → InputRest → Type 0) (Fails : Type 0) (way
   bytes_hold : (all : List ℕ) → IsWayOf order (Some all) way → FitsBytes (Some all) way → Opened (Some all)
       → HoldsAs order all (union_of held)
   bytes_hold all (inl (whole, same, settled)) (short, (long, split)) opens =
-      subst (λ (o : Order). HoldsAs o all (union_of held)) same
-      (whole_holds gives Fails all way.size long way.order inputs whole_run given held (whole_file all (omega (arith, short, long)))
-      (subst (Pairwise (OpensRun gives Fails (Some all) way.size way.order) inputs) whole opens) g p)
-  bytes_hold all (inr (inl (any, tried))) fits opens = any_holds all any (runs_are_file all fits opens)
-  bytes_hold all (inr (inr (any, runs))) fits opens = any_holds all any (runs_are_file all fits opens)
+      whole_holds gives Fails all way.size long order inputs whole_run given held (whole_file all (omega (arith, short, long)))
+      (subst (Pairwise (OpensRun gives Fails (Some all) way.size (InOrder order)) inputs) whole
+      (opened_as all (InOrder order) same opens)) g p
+  bytes_hold all (inr (inl (any, (whole, sorted, may)))) fits opens = any_holds all any (runs_are_file all sorted fits opens)
+  bytes_hold all (inr (inr (any, (sorted, settled, runs)))) fits opens = any_holds all any (runs_are_file all sorted fits opens)
 
   known_holds : (known : Option (List ℕ)) → IsWayOf order known way × FitsBytes known way → Opened known
       → IfSome known (λ all. HoldsAs order all (union_of held))
@@ -255,15 +261,15 @@ module _ {F R I : Type 0} (fails : F → Type 0) (bytes : F → Option (List ℕ
   stream_holds r end way (x ∷ []) ((how, c) ∷ []) (s ∷ t ∷ held) fits opened g p = absurd p.1
   stream_holds r end way (x ∷ []) ((how, c) ∷ []) (s ∷ []) fits (input, is, opens) g p =
       let same : x ≡ input = (let e : x ∷ [] ≡ input ∷ [] = is in cc) in
-      let order_is : how ≡ read_as_of order = sym g.0.0 ∙ ap (λ (i : InputFile I). i.read_as) same ∙ opens.order_is
-      ∙ ap read_as_of fits.1 in
+      let order_is : how ≡ InOrder order = sym g.0.0 ∙ ap (λ (i : InputFile I). i.read_as) same ∙ opens.read_as_is
+      ∙ fits.1 in
       let given : InputRest = g.0.1.0 in
       let ended : c ≡ by_rule end given =
       g.0.1.2 ∙ ap (λ (e : EndRule). by_rule e given) (ap (λ (i : InputFile I). i.end) same ∙ opens.end_is) in (
         given,
         opens.gives_stream given (subst (λ (i : InputFile I). gives i.reader given) same g.0.1.1),
-        subst (λ (t : VersionSet). GivesAs (read_as_of order, by_rule end given) t) (sym (union_of_one s))
-            (subst (λ (d : InputRest). GivesAs (read_as_of order, d) s) ended (subst (λ (h : ReadAs). GivesAs (h, c) s) order_is p.0)),
+        subst (λ (t : VersionSet). GivesAs (InOrder order, by_rule end given) t) (sym (union_of_one s))
+            (subst (λ (d : InputRest). GivesAs (InOrder order, d) s) ended (subst (λ (h : ReadAs). GivesAs (h, c) s) order_is p.0)),
       )
 
   one_holds : SortedRunsHoldTheFile → (file : JobFile F R) (way : FileWay) (inputs : List (InputFile I))

@@ -37,11 +37,12 @@ use Rattle.osm_mirror.specs.declared.run.files_job.Order.{Order}
 use Rattle.osm_mirror.specs.declared.run.files_job.Order.TheVariants.{Sorted, Any}
 use Rattle.osm_mirror.specs.declared.run.input.InputFile.{InputFile}
 use Rattle.osm_mirror.specs.declared.run.input.ReadAs.{ReadAs}
+use Rattle.osm_mirror.specs.declared.run.input.ReadAs.TheVariants.{InOrder}
 use Rattle.osm_mirror.specs.run.FilesRefusal.{IsFaultIn, IsFaultInWay}
-use Rattle.osm_mirror.specs.run.FilesJob.{read_as_of, IsAsRequired, IsWayOf, FitsBytes, FileFits, FilesFit, OpensRun, OpensFile, OpensFiles}
+use Rattle.osm_mirror.specs.run.FilesJob.{IsAsRequired, IsWayOf, FitsBytes, FileFits, FilesFit, OpensRun, OpensFile, OpensFiles}
 use Rattle.osm_mirror.specs.run.FilesJob.{fault_in_run_or, fault_in_files}
 use Rattle.osm_mirror.specs.run.Given.{InputFileCanGive, source_of}
-use Rattle.osm_mirror.proofs.run_laws.FilesJobLaws.{cut, as_pairs, as_given, plain_given}
+use Rattle.osm_mirror.proofs.run_laws.FilesJobLaws.{cut, as_pairs, as_given, plain_given, pairwise_length}
 use Rattle.osm_mirror.proofs.run_laws.InputRefusalLaws.{SomeRefused, some_of_both, any_refused, has_number}
 
 -- ---- the fault of a run
@@ -145,7 +146,7 @@ module _ {I : Type 0} (gives : I → InputRest → Type 0) (Fails : Type 0) (ord
     as_sorted : (sorted_source m c).refusal ≡ Some fault → Refuses Fails m (run_bytes run all) fault
     as_sorted e = run_refuses Fails all run way.size m fault fits.1.0 (c, gave, inr e)
 
-    required_in : (o : Order) → order ≡ o → run ≡ whole_run → (source_of m (read_as_of o, c)).refusal ≡ Some fault
+    required_in : (o : Order) → order ≡ o → run ≡ whole_run → (source_of m (InOrder o, c)).refusal ≡ Some fault
         → IsFaultIn order Fails (Some all) r
     required_in Sorted is whole e =
         subst (λ (o : Order). IsFaultIn o Fails (Some all) r) (sym is)
@@ -157,12 +158,14 @@ module _ {I : Type 0} (gives : I → InputRest → Type 0) (Fails : Type 0) (ord
         (subst (λ bytes. IsRefusalOf Fails bytes fault) (whole_bytes whole)
         (units_refuse Fails all run way.size m fault c fits.1.0 gave (any_refused m c fault e))))
 
-    in_way : IsWayOf order (Some all) way → (source_of m (read_as_of way.order, c)).refusal ≡ Some fault → InWay (Some all)
-    in_way (inl (whole, o, settled)) e = inl (required_in way.order (sym o) (only_run way.runs.items j run whole at) e)
+    in_way : IsWayOf order (Some all) way → (source_of m (way.read_as, c)).refusal ≡ Some fault → InWay (Some all)
+    in_way (inl (whole, o, settled)) e =
+        inl (required_in order refl (only_run way.runs.items j run whole at)
+        (subst (λ (h : ReadAs). (source_of m (h, c)).refusal ≡ Some fault) o e))
     in_way (inr (inl (any, (whole, o, may)))) e =
         let is = only_run way.runs.items j run whole at in
         let sorted : (sorted_source m c).refusal ≡ Some fault =
-        subst (λ (o : Order). (source_of m (read_as_of o, c)).refusal ≡ Some fault) o e in
+        subst (λ (h : ReadAs). (source_of m (h, c)).refusal ≡ Some fault) o e in
         ⊎_elim
         (λ found. inl (subst (λ (o : Order). IsFaultIn o Fails (Some all) r) (sym any) found))
         (λ unsorted. inr (may, unsorted))
@@ -170,7 +173,7 @@ module _ {I : Type 0} (gives : I → InputRest → Type 0) (Fails : Type 0) (ord
         (subst (λ bytes. Refuses Fails m bytes fault) (whole_bytes is) (as_sorted sorted)))
     in_way (inr (inr (any, (o, settled, runs)))) e =
         let sorted : (sorted_source m c).refusal ≡ Some fault =
-        subst (λ (o : Order). (source_of m (read_as_of o, c)).refusal ≡ Some fault) o e in
+        subst (λ (h : ReadAs). (source_of m (h, c)).refusal ≡ Some fault) o e in
         inl (subst (λ (o : Order). IsFaultIn o Fails (Some all) r) (sym any)
         (⊎_elim
         (λ failure. inl (failed Fails all fault r same other (failure_of Fails (run_bytes run all) fault failure)))
@@ -180,29 +183,18 @@ module _ {I : Type 0} (gives : I → InputRest → Type 0) (Fails : Type 0) (ord
         (as_sorted sorted)))
 
   known_in_way : (known : Option (List ℕ)) (c : InputRest) → IsWayOf order known way × FitsBytes known way
-      → RunCanGive Fails known run way.size c → (source_of m (read_as_of way.order, c)).refusal ≡ Some fault → InWay known
+      → RunCanGive Fails known run way.size c → (source_of m (way.read_as, c)).refusal ≡ Some fault → InWay known
   known_in_way None c fits gave e = inl (unknown_fault order Fails r)
   known_in_way (Some all) c fits gave e = in_way all c fits.1 gave fits.0 e
 
 -- ---- the inputs of a file
--- the order of each of these inputs is that of a file
-abbrev AreOrdered : List (ReadAs × InputRest) → Type 0
-AreOrdered [] = Unit {0}
-AreOrdered (x ∷ xs) = ((order : Order) × (x.0 ≡ read_as_of order)) × AreOrdered xs
-
-ordered_both : (xs ys : List (ReadAs × InputRest)) → AreOrdered xs → AreOrdered ys → AreOrdered (xs ++ ys)
-ordered_both [] ys a b = b
-ordered_both (x ∷ xs) ys a b = (a.0, ordered_both xs ys a.1 b)
-
 -- a fault is that of one of the inputs
-numbers : (Ways : ReadAs → Type 0) (n : ℕ) (xs : List (ReadAs × InputRest)) (fault : Fault) → AreOrdered xs
-    → SomeRefused Ways n xs fault → (n ≤ fault.input) × (fault.input < n + length xs)
-numbers Ways n [] fault ordered s = absurd s
-numbers Ways n ((how, c) ∷ xs) fault ((order, is), ordered) (inl (among, e)) =
-    let at : fault.input ≡ n = has_number order n c fault (subst (λ (h : ReadAs). (source_of n (h, c)).refusal ≡ Some fault) is e) in
-    (omega (arith, at), omega (arith, at))
-numbers Ways n (x ∷ xs) fault (first, ordered) (inr more) =
-    let at = numbers Ways (n + 1) xs fault ordered more in
+numbers : (Ways : ReadAs → Type 0) (n : ℕ) (xs : List (ReadAs × InputRest)) (fault : Fault) → SomeRefused Ways n xs fault
+    → (n ≤ fault.input) × (fault.input < n + length xs)
+numbers Ways n [] fault s = absurd s
+numbers Ways n (x ∷ xs) fault (inl (among, e)) = let at = has_number n x fault e in (omega (arith, at), omega (arith, at))
+numbers Ways n (x ∷ xs) fault (inr more) =
+    let at = numbers Ways (n + 1) xs fault more in
     let low = at.0 in let high = at.1 in
     (omega (arith, low), omega (arith, high))
 
@@ -215,23 +207,11 @@ module _ {F R I : Type 0} (fails : F → Type 0) (bytes : F → Option (List ℕ
   abbrev Given : List (InputFile I) → List (ReadAs × InputRest) → Type 0
   Given inputs given = AllGive (InputFileCanGive gives) inputs given
 
-  runs_ordered : (known : Option (List ℕ)) (Fails : Type 0) (size : ℕ) (o : Order) (inputs : List (InputFile I)) (runs : List SortedRun)
-      (given : List (ReadAs × InputRest)) → Pairwise (OpensRun gives Fails known size o) inputs runs → Given inputs given
-      → AreOrdered given × (length given ≡ length runs)
-  runs_ordered known Fails size o [] [] [] opens g = (tt, refl)
-  runs_ordered known Fails size o [] [] (x ∷ given) opens g = absurd g
-  runs_ordered known Fails size o [] (run ∷ runs) given opens g = absurd opens
-  runs_ordered known Fails size o (i ∷ inputs) [] given opens g = absurd opens
-  runs_ordered known Fails size o (i ∷ inputs) (run ∷ runs) [] opens g = absurd g
-  runs_ordered known Fails size o (i ∷ inputs) (run ∷ runs) (x ∷ given) opens g =
-      let more = runs_ordered known Fails size o inputs runs given opens.1 g.1 in
-      (((o, sym g.0.0 ∙ opens.0.order_is), more.0), ap suc more.1)
-
   -- what a stream's input gives
   pub record GaveStream (r : R) (end : EndRule) (given : List (ReadAs × InputRest)) : Type 0 where
     pub c : InputRest
     pub gave : can r c
-    pub only : given ≡ (read_as_of order, by_rule end c) ∷ []
+    pub only : given ≡ (InOrder order, by_rule end c) ∷ []
 
   pub stream_gave : (r : R) (end : EndRule) (way : FileWay) (inputs : List (InputFile I)) (given : List (ReadAs × InputRest))
       → IsAsRequired order way → OpensFile fails bytes can gives (Stream r end) way inputs → Given inputs given → GaveStream r end given
@@ -241,8 +221,7 @@ module _ {F R I : Type 0} (fails : F → Type 0) (bytes : F → Option (List ℕ
   stream_gave r end way (x ∷ []) (y ∷ z ∷ given) fits opened g = absurd g.1
   stream_gave r end way (x ∷ []) ((how, c) ∷ []) fits (input, is, opens) g =
       let same : x ≡ input = (let e : x ∷ [] ≡ input ∷ [] = is in cc) in
-      let order_is : how ≡ read_as_of order = sym g.0.0 ∙ ap (λ (i : InputFile I). i.read_as) same ∙ opens.order_is
-      ∙ ap read_as_of fits.1 in
+      let order_is : how ≡ InOrder order = sym g.0.0 ∙ ap (λ (i : InputFile I). i.read_as) same ∙ opens.read_as_is ∙ fits.1 in
       let one : InputRest = g.0.1.0 in
       let ended : c ≡ by_rule end one =
       g.0.1.2 ∙ ap (λ (e : EndRule). by_rule e one) (ap (λ (i : InputFile I). i.end) same ∙ opens.end_is) in
@@ -252,17 +231,22 @@ module _ {F R I : Type 0} (fails : F → Type 0) (bytes : F → Option (List ℕ
         only = λ i. (order_is i, ended i) ∷ [];
       }
 
-  -- the inputs of a file are as many as its runs, and each has an order
-  file_ordered : (file : JobFile F R) (way : FileWay) (inputs : List (InputFile I)) (given : List (ReadAs × InputRest))
+  -- the inputs of a file are as many as its runs
+  file_counted : (file : JobFile F R) (way : FileWay) (inputs : List (InputFile I)) (given : List (ReadAs × InputRest))
       → FileFits bytes order file way → OpensFile fails bytes can gives file way inputs → Given inputs given
-      → AreOrdered given × (length given ≡ length way.runs.items)
-  file_ordered (File f end) way inputs given fits opens g =
-      runs_ordered (bytes f.now) (fails f.now) way.size way.order inputs way.runs.items given opens g
-  file_ordered (Stream r end) way inputs given fits opens g =
-      let s = stream_gave r end way inputs given fits opens g in (
-        subst AreOrdered (sym s.only) ((order, refl), tt),
-        ap length s.only ∙ ap length (sym fits.0),
-      )
+      → length given ≡ length way.runs.items
+  file_counted (File f end) way inputs given fits opens g =
+      sym (pairwise_length (InputFileCanGive gives) inputs given (as_pairs (InputFileCanGive gives) inputs given g))
+      ∙ pairwise_length (OpensRun gives (fails f.now) (bytes f.now) way.size way.read_as) inputs way.runs.items opens
+  file_counted (Stream r end) way inputs given fits opens g =
+      ap length (stream_gave r end way inputs given fits opens g).only ∙ ap length (sym fits.0)
+
+  -- the way of a file has an order
+  file_ordered : (file : JobFile F R) (way : FileWay) → FileFits bytes order file way → (o : Order) × (way.read_as ≡ InOrder o)
+  file_ordered (File f end) way (inl (whole, o, settled), fits) = (order, o)
+  file_ordered (File f end) way (inr (inl (any, (whole, o, may))), fits) = (Sorted, o)
+  file_ordered (File f end) way (inr (inr (any, (o, settled, runs))), fits) = (Sorted, o)
+  file_ordered (Stream r end) way fits = (order, fits.1)
 
   module _ (Ways : ReadAs → Type 0) where
     -- ---- the fault of one of a file's inputs
@@ -272,7 +256,7 @@ module _ {F R I : Type 0} (fails : F → Type 0) (bytes : F → Option (List ℕ
       pub run : SortedRun
       pub input_is : fault.input ≡ n + j
       pub at : slice_get way.runs.items j ≡ Some run
-      pub among : Ways (read_as_of way.order)
+      pub among : Ways way.read_as
       pub in_way : (r : Fault) → r.reason ≡ fault.reason → (fault.reason ≡ Memory → ⊥) → r.place ≡ offset_in_file run fault.place
           → IsFaultInWay fails bytes can order file way r
 
@@ -280,7 +264,7 @@ module _ {F R I : Type 0} (fails : F → Type 0) (bytes : F → Option (List ℕ
         (inputs : List (InputFile I))
         (runs : List SortedRun) (given : List (ReadAs × InputRest)) → FileFits {R = R} bytes order (File f end) way → fault.place < 2 ^ 64
         → way.runs.items ≡ before ++ runs
-        → Pairwise (OpensRun gives (fails f.now) (bytes f.now) way.size way.order) inputs runs → Given inputs given
+        → Pairwise (OpensRun gives (fails f.now) (bytes f.now) way.size way.read_as) inputs runs → Given inputs given
         → SomeRefused Ways (n + length before) given fault → RefusedRun n (File f end) way fault
     refused_run f end way fault n before [] runs [] fits small is opens g s = absurd s
     refused_run f end way fault n before [] runs (x ∷ given) fits small is opens g s = absurd g
@@ -288,17 +272,17 @@ module _ {F R I : Type 0} (fails : F → Type 0) (bytes : F → Option (List ℕ
     refused_run f end way fault n before (i ∷ inputs) (run ∷ runs) [] fits small is opens g s = absurd g
     refused_run f end way fault n before (i ∷ inputs) (run ∷ runs) ((how, c) ∷ given) fits small is opens g (inl (among, e)) =
         let m : ℕ = n + length before in
-        let order_is : how ≡ read_as_of way.order = sym g.0.0 ∙ opens.0.order_is in
-        let refused : (source_of m (read_as_of way.order, c)).refusal ≡ Some fault =
-        subst (λ (h : ReadAs). (source_of m (h, c)).refusal ≡ Some fault) order_is e in
+        let how_is : how ≡ way.read_as = sym g.0.0 ∙ opens.0.read_as_is in
+        let refused : (source_of m (way.read_as, c)).refusal ≡ Some fault =
+        subst (λ (h : ReadAs). (source_of m (h, c)).refusal ≡ Some fault) how_is e in
         let at : slice_get way.runs.items (length before) ≡ Some run =
         ap (λ (xs : List SortedRun). slice_get xs (length before)) is ∙ get_after before run runs in
         record {
           j = length before;
           run = run;
-          input_is = has_number way.order m c fault refused;
+          input_is = has_number m (how, c) fault e;
           at = at;
-          among = subst Ways order_is among;
+          among = subst Ways how_is among;
           in_way = λ r same other there. known_in_way gives (fails f.now) order way fault r same other small (length before) m run at there
               (bytes f.now) c fits (opens.0.gives_run c (plain_given gives i how c opens.0.end_is g.0)) refused;
         }
@@ -322,16 +306,16 @@ module _ {F R I : Type 0} (fails : F → Type 0) (bytes : F → Option (List ℕ
         (λ p. (let e = p.1 in record {
           j = 0;
           run = whole_run;
-          input_is = has_number order n (by_rule end gave.c) fault e ∙ (let same : n ≡ n + 0 = omega arith in same);
+          input_is = has_number n (InOrder order, by_rule end gave.c) fault e ∙ (let same : n ≡ n + 0 = omega arith in same);
           at = ap (λ (xs : List SortedRun). slice_get xs 0) fits.0;
-          among = subst (λ (o : Order). Ways (read_as_of o)) (sym fits.1) p.0;
+          among = subst Ways (sym fits.1) p.0;
           in_way = λ r same other there. inl (
             gave.c,
             gave.gave,
             (
               n,
               e ∙ ap Some (λ i. record {
-                input = has_number order n (by_rule end gave.c) fault e i;
+                input = has_number n (InOrder order, by_rule end gave.c) fault e i;
                 place = (sym (there ∙ whole_place fault.place small)) i;
                 reason = (sym same) i;
               }),
@@ -350,14 +334,15 @@ module _ {F R I : Type 0} (fails : F → Type 0) (bytes : F → Option (List ℕ
       pub way : FileWay
       pub file_is : slice_get files k ≡ Some file
       pub way_is : slice_get ways k ≡ Some way
-      pub among : Ways (read_as_of way.order)
+      pub ordered : (o : Order) × (way.read_as ≡ InOrder o)
+      pub among : Ways way.read_as
       pub fault_is : IsFaultInWay fails bytes can order file way r
 
     in_run : (number n : ℕ) (file : JobFile F R) (way : FileWay) (files : List (JobFile F R)) (ways : List FileWay) (fault other : Fault)
-        → (run : RefusedRun n file way fault)
+        → FileFits bytes order file way → (run : RefusedRun n file way fault)
         → let r = fault_in_run_or number (slice_get way.runs.items (fault.input - n)) fault other in
         (r ≡ memory_fault) ⊎ Found number (file ∷ files) (way ∷ ways) r
-    in_run number n file way files ways fault other run =
+    in_run number n file way files ways fault other fits run =
         let index : fault.input - n ≡ run.j = omega (arith, run.input_is) in
         let at : slice_get way.runs.items (fault.input - n) ≡ Some run.run = ap (slice_get way.runs.items) index ∙ run.at in
         let place : ℕ = offset_in_file run.run fault.place in
@@ -371,23 +356,11 @@ module _ {F R I : Type 0} (fails : F → Type 0) (bytes : F → Option (List ℕ
           way = way;
           file_is = refl;
           way_is = refl;
+          ordered = file_ordered file way fits;
           among = run.among;
           fault_is = run.in_way (fault_at number place fault.reason) is.reason_is is.other is.place_is;
         }))
         (at_is number place fault.reason))
-
-    files_ordered : (files : List (JobFile F R)) (ways : List FileWay) (inputs : List (InputFile I)) (given : List (ReadAs × InputRest))
-        → FilesFit bytes order files ways → OpensFiles fails bytes can gives files ways inputs → Given inputs given → AreOrdered given
-    files_ordered [] ways [] [] fits opens g = tt
-    files_ordered [] ways [] (x ∷ given) fits opens g = absurd g
-    files_ordered [] ways (i ∷ inputs) given fits opens g = absurd (let e : i ∷ inputs ≡ [] = opens in cc)
-    files_ordered (file ∷ files) [] inputs given fits opens g = absurd opens
-    files_ordered (file ∷ files) (way ∷ ways) inputs given fits (added, others, is, one, more) g =
-        let c = cut (InputFileCanGive gives) added others given
-        (as_pairs (InputFileCanGive gives) (added ++ others) given (subst (λ (xs : List (InputFile I)). Given xs given) is g)) in
-        let first = file_ordered file way added c.before fits.0 one (as_given (InputFileCanGive gives) added c.before c.first) in
-        let second = files_ordered files ways others c.after fits.1 more (as_given (InputFileCanGive gives) others c.after c.second) in
-        subst AreOrdered (sym c.joined) (ordered_both c.before c.after first.0 second)
 
     -- The fault of an input is the fault of its file.
     pub fault_found : (files : List (JobFile F R)) (ways : List FileWay) (inputs : List (InputFile I)) (given : List (ReadAs × InputRest))
@@ -404,16 +377,14 @@ module _ {F R I : Type 0} (fails : F → Type 0) (bytes : F → Option (List ℕ
         (as_pairs (InputFileCanGive gives) (added ++ others) given (subst (λ (xs : List (InputFile I)). Given xs given) is g)) in
         let first = as_given (InputFileCanGive gives) added c.before c.first in
         let second = as_given (InputFileCanGive gives) others c.after c.second in
-        let sized = file_ordered file way added c.before fits.0 one first in
+        let long = file_counted file way added c.before fits.0 one first in
         ⊎_elim
         (λ here. in_run number n file way files ways fault
-        (fault_in_files (number + 1) ways (fault.input - n - length way.runs.items) fault)
+        (fault_in_files (number + 1) ways (fault.input - n - length way.runs.items) fault) fits.0
         (refused_file file way fault n added c.before fits.0 small one first here))
         (λ later. (
-        let between = numbers Ways (n + length c.before) c.after fault
-        (files_ordered files ways others c.after fits.1 more second) later in
+        let between = numbers Ways (n + length c.before) c.after fault later in
         let low = between.0 in
-        let long = sized.1 in
         let none : slice_get way.runs.items (fault.input - n) ≡ None =
         slice_get_past way.runs.items (fault.input - n) (omega (arith, low, long)) in
         let index : fault.input - (n + length c.before) ≡ fault.input - n - length way.runs.items = omega (arith, low, long) in
@@ -431,6 +402,7 @@ module _ {F R I : Type 0} (fails : F → Type 0) (bytes : F → Option (List ℕ
           way = f.way;
           file_is = f.file_is;
           way_is = f.way_is;
+          ordered = f.ordered;
           among = f.among;
           fault_is = f.fault_is;
         }))
@@ -451,7 +423,7 @@ module _ {F R I : Type 0} (fails : F → Type 0) (bytes : F → Option (List ℕ
       (as_pairs (InputFileCanGive gives) (added ++ others) given (subst (λ (xs : List (InputFile I)). Given xs given) same g)) in
       let first = as_given (InputFileCanGive gives) added c.before c.first in
       let second = as_given (InputFileCanGive gives) others c.after c.second in
-      let long = (file_ordered file way added c.before fits.0 one first).1 in
+      let long = file_counted file way added c.before fits.0 one first in
       let all : k ≡ length c.before + length c.after = is ∙ ap length c.joined ∙ length-append c.before c.after in
       let none : slice_get way.runs.items k ≡ None = slice_get_past way.runs.items k (omega (arith, long, all)) in
       let left : k - length way.runs.items ≡ length c.after = omega (arith, long, all) in

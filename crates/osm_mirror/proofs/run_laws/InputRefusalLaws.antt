@@ -1,21 +1,27 @@
 -- Why a job is refused: the fault of one of its inputs, which has the number of that input.
 use Rattle.std.proofs.Common.{◌≡◌, ◌⊎◌, inl, inr, ⊎_elim, ℕ, zero, suc, ◌+◌, ◌<◌, List, [], ◌∷◌, ◌++◌}
-use Rattle.std.proofs.Common.{length, Option, Some, None, sym, ap, ◌∙◌, subst, arith}
+use Rattle.std.proofs.Common.{length, Option, Some, None, sym, ap, ◌∙◌, subst, arith, refl, Bool, true, false, not, ◌||◌, cond}
+use Rattle.std.specs.List.{list_any}
 use Rattle.std.specs.List.{All}
 use Rattle.std.proofs.lemmas.List.Elements.{All-head, All-tail}
+use Rattle.osm_model.specs.Data.{VersionData}
 use Rattle.osm_files.specs.declared.fault.Fault.{Fault}
 use Rattle.osm_files.specs.Input.{InputRest}
+use Rattle.osm_files.specs.Groups.{sorted_source}
 use Rattle.osm_files.specs.Position.{units_from, with_input}
 use Rattle.osm_files.specs.SourceLaws.{input_verdict}
+use Rattle.osm_files.specs.Stream.{end_whole, end_refused}
 use Rattle.osm_files.specs.Verdict.{versions_of}
 use Rattle.osm_files.proofs.HoldLaws.{source_refusal}
 use Rattle.osm_files.proofs.FirstLaws.{refusal_input}
+use Rattle.osm_merge.specs.declared.within.Outside.TheVariants.{Dropped, Refused}
+use Rattle.osm_merge.specs.Slice.{is_under, is_within}
+use Rattle.osm_merge.specs.ToCome as source
 use Rattle.osm_merge.specs.ToCome.{rest_at}
-use Rattle.osm_mirror.specs.declared.run.files_job.Order.{Order}
+use Rattle.osm_merge.specs.Within.{up_to, from_bound, stray_fault}
 use Rattle.osm_mirror.specs.declared.run.files_job.Order.TheVariants.{Sorted, Any}
 use Rattle.osm_mirror.specs.declared.run.input.ReadAs.{ReadAs}
-use Rattle.osm_mirror.specs.declared.run.input.ReadAs.TheVariants as read_as
-use Rattle.osm_mirror.specs.run.FilesJob.{read_as_of}
+use Rattle.osm_mirror.specs.declared.run.input.ReadAs.TheVariants.{InOrder, Within}
 use Rattle.osm_mirror.specs.run.Given.{source_of, held_source, whole_or_refused, refusal, CannotBeRead, IsRead, IsUnread, sources}
 use Rattle.osm_mirror.proofs.run_laws.SourceLaws as source_laws
 
@@ -32,16 +38,16 @@ abbrev pub AnyWay : ReadAs → Type 0
 AnyWay how = Unit {0}
 
 abbrev pub Streamed : ReadAs → Type 0
-Streamed how = how ≡ read_as.Any → ⊥
+Streamed how = how ≡ InOrder Any → ⊥
 
 -- an input that was read to its end isn't refused
 is_streamed : (number : ℕ) (x : ReadAs × InputRest) (fault : Fault) → IsRead x → (source_of number x).refusal ≡ Some fault → Streamed x.0
-is_streamed number (read_as.Sorted, c) fault read e any = (let f : read_as.Sorted ≡ read_as.Any = any in cc)
-is_streamed number (read_as.Any, c) fault (held, gave) e any =
-    let whole = source_laws.as_given number (read_as.Any, c) held gave in
+is_streamed number (InOrder Sorted, c) fault read e any = (let f : InOrder Sorted ≡ InOrder Any = any in cc)
+is_streamed number (InOrder Any, c) fault (held, gave) e any =
+    let whole = source_laws.as_given number (InOrder Any, c) held gave in
     (let f : None ≡ Some fault = sym whole.0 ∙ e in cc)
-is_streamed number (read_as.Within span outside, c) fault read e any =
-    (let f : read_as.Within span outside ≡ read_as.Any = any in cc)
+is_streamed number (Within span outside, c) fault read e any =
+    (let f : Within span outside ≡ InOrder Any = any in cc)
 
 pub refused_at : (number : ℕ) (inputs : List (ReadAs × InputRest)) (index : ℕ) (fault : Fault) → All IsRead inputs
     → index < length (sources number inputs) → (rest_at (sources number inputs) index).refusal ≡ Some fault
@@ -54,10 +60,10 @@ refused_at number (x ∷ xs) (suc k) fault reads low e =
 cannot_read : (number : ℕ) (x : ReadAs × InputRest) (fault : Fault) → CannotBeRead number x fault
     → (source_of number x).refusal ≡ Some fault
 unfolding held_source
-cannot_read number (read_as.Sorted, c) fault u = absurd u
-cannot_read number (read_as.Any, c) fault u =
+cannot_read number (InOrder Sorted, c) fault u = absurd u
+cannot_read number (InOrder Any, c) fault u =
     ap (λ r. (whole_or_refused r (versions_of (with_input number (units_from None 0 c)).list)).refusal) u
-cannot_read number (read_as.Within span outside, c) fault u = absurd u
+cannot_read number (Within span outside, c) fault u = absurd u
 
 pub unread_refused : (number : ℕ) (inputs : List (ReadAs × InputRest)) (fault : Fault) → IsUnread number inputs fault
     → SomeRefused AnyWay number inputs fault
@@ -86,9 +92,36 @@ unfolding held_source
 any_refused number c fault e =
     let units = with_input number (units_from None 0 c) in held_refused units.refusal (versions_of units.list) fault e
 
+-- a rest that is refused before it ends is refused with the refusal of all versions, or because a version fails the test
+pub up_to_refused : (p : VersionData → Bool) (end : source.VersionsToCome) (r : Option Fault) (versions : List VersionData) (fault : Fault)
+    → (up_to p end r versions).refusal ≡ Some fault
+    → (r ≡ Some fault) ⊎ ((end.refusal ≡ Some fault) × (list_any (λ v. not (p v)) versions ≡ true))
+up_to_refused p end r [] fault h = inl h
+up_to_refused p end r (v ∷ versions) fault h =
+    elim (p v) as (λ t. (cond t (record { list = v ∷ (up_to p end r versions).list; refusal = (up_to p end r versions).refusal })
+    end).refusal
+    ≡ Some fault → (r ≡ Some fault) ⊎ ((end.refusal ≡ Some fault) × ((not t || list_any (λ w. not (p w)) versions) ≡ true))) [
+      | true ↦ λ k. up_to_refused p end r versions fault k
+      | false ↦ λ k. inr (k, refl)
+    ] h
+
+-- the fault of a sorted input has its number
+sorted_number : (number : ℕ) (c : InputRest) (fault : Fault) → (sorted_source number c).refusal ≡ Some fault → fault.input ≡ number
+sorted_number number c fault e = refusal_input number (input_verdict c) fault (sym (source_refusal number c) ∙ e)
+
 -- the fault of an input has its number
-pub has_number : (order : Order) (number : ℕ) (c : InputRest) (fault : Fault)
-    → (source_of number (read_as_of order, c)).refusal ≡ Some fault
+pub has_number : (number : ℕ) (x : ReadAs × InputRest) (fault : Fault) → (source_of number x).refusal ≡ Some fault
     → fault.input ≡ number
-has_number Sorted number c fault e = refusal_input number (input_verdict c) fault (sym (source_refusal number c) ∙ e)
-has_number Any number c fault e = refusal_input number (units_from None 0 c).refusal fault (any_refused number c fault e)
+has_number number (InOrder Sorted, c) fault e = sorted_number number c fault e
+has_number number (InOrder Any, c) fault e = refusal_input number (units_from None 0 c).refusal fault (any_refused number c fault e)
+has_number number (Within span Dropped, c) fault e =
+    ⊎_elim (λ r. sorted_number number c fault r)
+    (λ (none, over). absurd (let no : None ≡ Some fault = none in cc))
+    (up_to_refused (is_under span.to) end_whole (from_bound span (sorted_source number c)).refusal
+    (from_bound span (sorted_source number c)).list fault e)
+has_number number (Within span Refused, c) fault e =
+    ⊎_elim (λ r. sorted_number number c fault r)
+    (λ (is_stray, stray). (let same : stray_fault number ≡ fault = (let s : Some (stray_fault number) ≡ Some fault = is_stray in cc) in
+    ap (λ f. f.input) (sym same)))
+    (up_to_refused (is_within span.from span.to) (end_refused (stray_fault number)) (sorted_source number c).refusal
+    (sorted_source number c).list fault e)

@@ -17,8 +17,6 @@ use Rattle.osm_files.specs.Output.{Change, Appends}
 use Rattle.osm_files.specs.Sink.{CutShort}
 use Rattle.osm_files.specs.Spell.{spell}
 use Rattle.osm_merge.specs.declared.merge.Counts.{Counts}
-use Rattle.osm_merge.specs.declared.span.Span.{Span}
-use Rattle.osm_merge.specs.declared.within.Outside.{Outside}
 use Rattle.osm_merge.specs.declared.selection.Selection.{Selection}
 use Rattle.osm_merge.specs.declared.selection.Selection.TheVariants as selection
 use Rattle.osm_merge.specs.Giving.{AllGive, SomeInputsGive}
@@ -32,18 +30,16 @@ use Rattle.osm_merge.specs.Union as union
 use Rattle.osm_merge.proofs.GiveLaws.{give_one, give_size}
 use Rattle.osm_mirror.specs.declared.run.input.InputFile.{InputFile}
 use Rattle.osm_mirror.specs.declared.run.input.ReadAs.{ReadAs}
-use Rattle.osm_mirror.specs.declared.run.input.ReadAs.TheVariants.{Sorted, Any, Within}
-use Rattle.osm_mirror.specs.declared.run.slice.Slice.{Slice}
-use Rattle.osm_mirror.specs.declared.run.slice.SliceFile.{SliceFile}
+use Rattle.osm_mirror.specs.declared.run.files_job.Order.TheVariants.{Sorted, Any}
+use Rattle.osm_mirror.specs.declared.run.input.ReadAs.TheVariants.{InOrder}
 use Rattle.osm_mirror.specs.declared.run.source.InputSource.{InputSource}
 use Rattle.osm_mirror.specs.run.Command.{IsWritten, IsNotWritten}
-use Rattle.osm_mirror.specs.run.Given.{GivesFile, GivesAs, IsFileAs, source_of, sources, InputFileCanGive, file_as, file_within, IsRead}
+use Rattle.osm_mirror.specs.run.Given.{GivesFile, GivesAs, IsFileAs, source_of, sources, InputFileCanGive, file_as, IsRead}
 use Rattle.osm_mirror.specs.run.Given.{AreOpened}
 use Rattle.osm_mirror.specs.run.Given.{CannotBeRead, IsUnread, IsUnopened}
 use Rattle.osm_mirror.specs.run.Merge as merge
 use Rattle.osm_mirror.specs.run.Job.{union_of, sources_by, IsBoundedFor, IsJobBy, IsCutShort, RefusesJobBy}
 use Rattle.osm_mirror.specs.run.SelectedJob.{IsJob, IsJobRefused, RefusesJob}
-use Rattle.osm_mirror.specs.run.SliceJob.{SliceFileCanGive, IsSliceJob, RefusesSlice}
 use Rattle.osm_mirror.specs.run.SourceRest.{SourceCanGive}
 use Rattle.osm_mirror.proofs.run_laws.SourceLaws.{members, union_given_is, cut_at_once, all_give, sizes, so_many, as_all_given, not_unread}
 use Rattle.osm_mirror.proofs.run_laws.SourceLaws.{opened_give}
@@ -239,20 +235,12 @@ of_readers : {R : Type 0} (can : R → InputRest → Type 0) (how : ReadAs) (rea
 of_readers can how =
     some_mapped can (file_as how) can (λ c. (how, c)) (λ reader input h. (h.1.0, h.1.1, (λ i. (sym h.0 i, h.1.2 i))))
 
--- the files of which slices are read
-of_slices : {R : Type 0} (can : R → InputRest → Type 0) (span : Span) (items : List (SliceFile R)) (files : List (InputFile R)) →
-    files ≡ map (file_within span) items → (P : List (ReadAs × InputRest) → Type 0) → SomeInputsGive (InputFileCanGive can) files P →
-    SomeInputsGive (SliceFileCanGive can) items (λ given. P (map (λ c. (Within span c.0, c.1)) given))
-of_slices can span =
-    some_mapped can (file_within span) (SliceFileCanGive can) (λ c. (Within span c.0, c.1))
-    (λ item input h. ((item.outside, h.1.0), (refl, h.1.1), (λ i. (sym h.0 i, h.1.2 i))))
-
 -- the sets of the files that were read to their ends
-sets : (all : List InputRest) → All IsRead (map (λ c. (Any, c)) all) → (held : List VersionSet) × Pairwise GivesFile all held
+sets : (all : List InputRest) → All IsRead (map (λ c. (InOrder Any, c)) all) → (held : List VersionSet) × Pairwise GivesFile all held
 sets [] h = ([], tt)
 sets (c ∷ all) h =
-    let one : IsRead (Any, c) = All-head IsRead (Any, c) (map (λ d. (Any, d)) all) h in
-    let others = sets all (All-tail IsRead (Any, c) (map (λ d. (Any, d)) all) h) in
+    let one : IsRead (InOrder Any, c) = All-head IsRead (InOrder Any, c) (map (λ d. (InOrder Any, d)) all) h in
+    let others = sets all (All-tail IsRead (InOrder Any, c) (map (λ d. (InOrder Any, d)) all) h) in
     (one.0 ∷ others.0, (one.1, others.1))
 
 -- what the sources of sorted files give
@@ -262,20 +250,15 @@ given_by number (c ∷ inputs) = (sources_give number c, given_by (number + 1) i
 
 module _ {O : Type 0} (output : Ghosts O) (format : Format) (before after : O) where
   merge_refuses : (all : List InputRest) (fault : Fault) →
-      RefusesJob output selection.All (map (λ c. (Sorted, c)) all) format before after fault →
+      RefusesJob output selection.All (map (λ c. (InOrder Sorted, c)) all) format before after fault →
       merge.Refuses all format (change_of output before after) fault
   merge_refuses all fault refused =
-      let r = mapped_refuses (λ c. (Sorted, c)) (λ number c fault h. h) output selection.All format before after fault all refused in
+      let r =
+      mapped_refuses (λ c. (InOrder Sorted, c)) (λ number c fault h. h) output selection.All format before after fault all refused in
       record { why = (sources_by sorted_source 0 all, given_by 0 all, r.why); cut = r.cut }
 
-  slice_refuses : (slice : Slice) (all : List (Outside × InputRest)) (fault : Fault) →
-      RefusesJob output slice.selection (map (λ c. (Within slice.span c.0, c.1)) all) format before after fault →
-      RefusesSlice slice all format (change_of output before after) fault
-  slice_refuses slice all fault =
-      mapped_refuses (λ c. (Within slice.span c.0, c.1)) (λ number c fault h. h) output slice.selection format before after fault all
-
   command_refuses : (selection : Selection) (all : List InputRest) (fault : Fault) →
-      RefusesJob output selection (map (λ c. (Any, c)) all) format before after fault →
+      RefusesJob output selection (map (λ c. (InOrder Any, c)) all) format before after fault →
       IsNotWritten output (selection_of selection) all format before after fault
   command_refuses selection all fault r =
       elim r.why [
@@ -284,40 +267,42 @@ module _ {O : Type 0} (output : Ghosts O) (format : Format) (before after : O) w
         | inr (inr (read, refused)) ↦ inr (inr (
           (sets all read).0,
           (sets all read).1,
-          mapped_cut (λ c. (Any, c)) (selection_of selection) all format (change_of output before after) fault r.cut (sets all read).0
-              (sets all read).1,
+          mapped_cut (λ c. (InOrder Any, c)) (selection_of selection) all format (change_of output before after) fault r.cut
+              (sets all read).0 (sets all read).1,
         ))
       ]
 
   module _ {R : Type 0} (can : R → InputRest → Type 0) (readers : List R) (files : List (InputFile R)) where
     -- A job over files that are all sorted is a merge of their readers.
-    pub merge_done : files ≡ map (file_as Sorted) readers → (counts : Counts) →
+    pub merge_done : files ≡ map (file_as (InOrder Sorted)) readers → (counts : Counts) →
         SomeInputsGive (InputFileCanGive can) files (λ all. IsJob selection.All all format (change_of output before after) counts) →
         SomeInputsGive can readers (λ all. merge.IsMerged all format (change_of output before after) counts)
     merge_done are counts h =
-        let q = of_readers can Sorted readers files are
+        let q = of_readers can (InOrder Sorted) readers files are
         (λ all. IsJob selection.All all format (change_of output before after) counts) h in (
           q.0,
           q.1,
-          mapped_run (λ c. (Sorted, c)) (λ set. set) merged.IsBounded q.0 format (change_of output before after) counts q.2,
+          mapped_run (λ c. (InOrder Sorted, c)) (λ set. set) merged.IsBounded q.0 format (change_of output before after) counts q.2,
         )
 
-    pub merge_stops : files ≡ map (file_as Sorted) readers → (fault : Fault) →
+    pub merge_stops : files ≡ map (file_as (InOrder Sorted)) readers → (fault : Fault) →
         SomeInputsGive (InputFileCanGive can) files (λ all. RefusesJob output selection.All all format before after fault) →
         SomeInputsGive can readers (λ all. merge.Refuses all format (change_of output before after) fault)
     merge_stops are fault h =
-        let q = of_readers can Sorted readers files are (λ all. RefusesJob output selection.All all format before after fault) h in
+        let q = of_readers can (InOrder Sorted) readers files are
+        (λ all. RefusesJob output selection.All all format before after fault) h in
         (q.0, q.1, merge_refuses q.0 fault q.2)
 
     -- A job over files that may all have any order is a command over their readers.
-    pub command_done : (selection : Selection) → files ≡ map (file_as Any) readers → (counts : Counts) →
+    pub command_done : (selection : Selection) → files ≡ map (file_as (InOrder Any)) readers → (counts : Counts) →
         SomeInputsGive (InputFileCanGive can) files (λ all. IsJob selection all format (change_of output before after) counts) →
         SomeInputsGive can readers (λ all. IsWritten (selection_of selection) all format (change_of output before after)
         (record { read = counts.read; written = counts.written; compared = 0; clashes = counts.clashes }))
     command_done selection are counts h =
-        let q = of_readers can Any readers files are (λ all. IsJob selection all format (change_of output before after) counts) h in
-        let r = mapped_run (λ c. (Any, c)) (selection_of selection) (IsBoundedFor selection) q.0 format (change_of output before after)
-        counts q.2 in (
+        let q = of_readers can (InOrder Any) readers files are
+        (λ all. IsJob selection all format (change_of output before after) counts) h in
+        let r = mapped_run (λ c. (InOrder Any, c)) (selection_of selection) (IsBoundedFor selection) q.0 format
+        (change_of output before after) counts q.2 in (
           q.0,
           q.1,
           record {
@@ -331,35 +316,12 @@ module _ {O : Type 0} (output : Ghosts O) (format : Format) (before after : O) w
           },
         )
 
-    pub command_stops : (selection : Selection) → files ≡ map (file_as Any) readers → (fault : Fault) →
+    pub command_stops : (selection : Selection) → files ≡ map (file_as (InOrder Any)) readers → (fault : Fault) →
         SomeInputsGive (InputFileCanGive can) files (λ all. RefusesJob output selection all format before after fault) →
         SomeInputsGive can readers (λ all. IsNotWritten output (selection_of selection) all format before after fault)
     command_stops selection are fault h =
-        let q = of_readers can Any readers files are (λ all. RefusesJob output selection all format before after fault) h in
+        let q = of_readers can (InOrder Any) readers files are (λ all. RefusesJob output selection all format before after fault) h in
         (q.0, q.1, command_refuses selection q.0 fault q.2)
-
-  module _ {R : Type 0} (can : R → InputRest → Type 0) (slice : Slice) (items : List (SliceFile R)) (files : List (InputFile R))
-      (are : files ≡ map (file_within slice.span) items) where
-    -- A job over files within a span is a job for a slice.
-    pub slice_done : (counts : Counts) →
-        SomeInputsGive (InputFileCanGive can) files (λ all. IsJob slice.selection all format (change_of output before after) counts) →
-        SomeInputsGive (SliceFileCanGive can) items (λ all. IsSliceJob slice all format (change_of output before after) counts)
-    slice_done counts h =
-        let q = of_slices can slice.span items files are
-        (λ all. IsJob slice.selection all format (change_of output before after) counts) h in (
-          q.0,
-          q.1,
-          mapped_run (λ c. (Within slice.span c.0, c.1)) (selection_of slice.selection) (IsBoundedFor slice.selection) q.0 format
-              (change_of output before after) counts q.2,
-        )
-
-    pub slice_stops : (fault : Fault) →
-        SomeInputsGive (InputFileCanGive can) files (λ all. RefusesJob output slice.selection all format before after fault) →
-        SomeInputsGive (SliceFileCanGive can) items (λ all. RefusesSlice slice all format (change_of output before after) fault)
-    slice_stops fault h =
-        let q = of_slices can slice.span items files are
-        (λ all. RefusesJob output slice.selection all format before after fault) h in
-        (q.0, q.1, slice_refuses slice q.0 fault q.2)
 
 -- ---- jobs for which memory ran out before a file was opened
 module _ {R : Type 0} (can : R → InputRest → Type 0) (one : R → InputRest) (possible : (r : R) → can r (one r)) {O : Type 0}
@@ -373,24 +335,13 @@ module _ {R : Type 0} (can : R → InputRest → Type 0) (one : R → InputRest)
       let all = map one readers in (
         all,
         give_one can one possible readers,
-        merge_refuses output format before before all fault (at_once selection.All (map (λ c. (Sorted, c)) all)),
+        merge_refuses output format before before all fault (at_once selection.All (map (λ c. (InOrder Sorted, c)) all)),
       )
 
   -- A command that runs out of memory before it reads wrote nothing.
   pub command_at_once : (choice : VersionSet → VersionSet) (readers : List R) →
       SomeInputsGive can readers (λ all. IsNotWritten output choice all format before before fault)
   command_at_once choice readers = (map one readers, give_one can one possible readers, inl (memory, refl))
-
-  -- A job for a slice that runs out of memory before it reads wrote nothing.
-  pub slice_at_once : (slice : Slice) (items : List (SliceFile R)) →
-      SomeInputsGive (SliceFileCanGive can) items (λ all. RefusesSlice slice all format (change_of output before before) fault)
-  slice_at_once slice items =
-      let all = map (λ item. (item.outside, one item.reader)) items in (
-        all,
-        give_one (SliceFileCanGive can) (λ item. (item.outside, one item.reader)) (λ item. (refl, possible item.reader)) items,
-        slice_refuses output format before before slice all fault
-            (at_once slice.selection (map (λ c. (Within slice.span c.0, c.1)) all)),
-      )
 
 -- ---- the commands over one input
 -- a property of a list of one input

@@ -3,7 +3,7 @@ use Rattle.std.proofs.Common.{◌≡◌, ◌⊎◌, inl, inr, ℕ, ◌≤◌, �
 use Rattle.std.proofs.lemmas.List.{length-take-le}
 use Rattle.osm_files.specs.declared.fault.Fault.{Fault}
 use Rattle.osm_files.specs.declared.reason.Reason.TheVariants.{Memory, WriteFault, TooLong}
-use Rattle.osm_files.specs.Fault.{memory_fault, too_long_fault}
+use Rattle.osm_files.specs.Fault.{memory_fault, too_long_fault, fault_at}
 use Rattle.osm_files.specs.Output.{Change}
 use Rattle.osm_files.specs.Sink.{CutShort, WhyCut}
 use Rattle.osm_mirror.specs.run.FilesRefusal.{IsOutputFault}
@@ -42,3 +42,27 @@ pub output_also : (number : ℕ) (change : Change) (Long More : Type 0) (fault :
     → IsOutputFault number change Long fault → IsOutputFault number change More fault
 output_also number change Long More fault more (inl write) = inl write
 output_also number change Long More fault more (inr (is, long)) = inr (is, more long)
+
+-- a fault with another number and place
+module _ (number count : ℕ) (fault moved : Fault) (memory_same : fault.reason ≡ Memory → moved ≡ memory_fault)
+    (output_same : fault.input ≡ number → moved ≡ fault_at count fault.place fault.reason) where
+  why_moved : (spelled : List ℕ) (taken : ℕ) (failed : Bool) → WhyCut number spelled taken failed fault
+      → WhyCut count spelled taken failed moved
+  why_moved spelled taken failed (inl memory) = inl (memory_same (ap (λ f. f.reason) memory))
+  why_moved spelled taken failed (inr (inl (is, fails))) = inr (inl (
+    output_same (ap (λ f. f.input) is) ∙ (λ i. fault_at count (is i).place (is i).reason),
+    fails,
+  ))
+  why_moved spelled taken failed (inr (inr (is, long))) = inr (inr (
+    output_same (ap (λ f. f.input) is) ∙ (λ i. fault_at count (is i).place (is i).reason),
+    long,
+  ))
+
+  -- A job that is cut short is so if the fault is that of a file.
+  pub cut_moved : (change : Change) (spelled : List ℕ) → CutShort number change spelled fault → CutShort count change spelled moved
+  cut_moved change spelled c = record {
+    count = c.count;
+    within = c.within;
+    appended = c.appended;
+    why = why_moved spelled c.count change.failed c.why;
+  }

@@ -1,11 +1,11 @@
 -- The probes of files: what they find, and at which offsets.
-use Rattle.std.proofs.Common.{◌≡◌, ℕ, zero, suc, ◌+◌, ◌-◌, ◌*◌, ◌/◌, ◌≤◌, ◌<◌, ◌==◌, ◌^◌, ◌⊎◌, min, Bool, true, false}
+use Rattle.std.proofs.Common.{◌≡◌, ℕ, zero, suc, ◌+◌, ◌-◌, ◌*◌, ◌/◌, ◌≤◌, ◌<◌, ◌==◌, ◌^◌, ◌⊎◌, ◌||◌, min, Bool, true, false}
 use Rattle.std.proofs.Common.{not, cond, List, [], ◌∷◌}
 use Rattle.std.proofs.Common.{◌++◌, length, refl, sym, ap, ◌∙◌, subst, arith, Option, Some, None, IfSome, inl, inr, ⊎_elim}
 use Rattle.std.proofs.Common.{take, drop, take-append-drop, get_or}
 use Rattle.std.proofs.Common.{append_assoc, append-nil}
 use Rattle.std.specs.Prelude.{sum_by, unwrap_or}
-use Rattle.std.proofs.lemmas.Bool.{cases_lt}
+use Rattle.std.proofs.lemmas.Bool.{le-leb, lt-leb}
 use Rattle.std.proofs.lemmas.Bool.Decides.{nat_tests}
 use Rattle.std.proofs.lemmas.Grind.{flat_map-append}
 use Rattle.std.proofs.lemmas.List.Sums.{sum_by_push, sum_by-append, sum_by-cons}
@@ -15,26 +15,22 @@ use Rattle.std.proofs.lemmas.Option.{MatchOption-at_some}
 use Rattle.osm_model.specs.declared.object.Object.{Object}
 use Rattle.osm_model.specs.Data.{VersionData}
 use Rattle.osm_model.specs.Pairwise.{Pairwise}
-use Rattle.osm_model.specs.VersionSet.{VersionSet}
 use Rattle.osm_files.specs.declared.fault.Fault.{Fault}
 use Rattle.osm_files.specs.Held.{HoldsSorted, IsFileOf}
-use Rattle.osm_files.specs.Lines.{lines_from}
 use Rattle.osm_files.specs.O5.{reset_byte}
 use Rattle.osm_files.specs.Opl.{OplFile}
 use Rattle.osm_files.specs.Units.{InOpl, start_of}
-use Rattle.osm_files.proofs.FirstLaws.{lines_read}
 use Rattle.osm_files.proofs.SinkLaws.{front_at}
 use Rattle.osm_mirror.specs.declared.run.bounds.Found.{Found}
-use Rattle.osm_mirror.specs.run.Bounds.{is_opl, opl_size, object_of_first, first_object, found_once, found_at, found_by, probe_count}
+use Rattle.osm_mirror.specs.run.Bounds.{is_opl, opl_size, first_object, found_once, found_at, found_by, probe_count}
 use Rattle.osm_mirror.specs.run.Bounds.{found_in, total_weight}
 use Rattle.osm_mirror.specs.run.Bounds.{found_in_all}
 use Rattle.osm_mirror.specs.declared.run.lines_from.LinesFrom.{LinesFrom}
-use Rattle.osm_mirror.specs.run.CutOffset.{start_if, IsCutRefusal}
-use Rattle.osm_mirror.specs.run.LinesFrom.{AreLines, AreLinesOf}
+use Rattle.osm_mirror.specs.run.CutOffset.{start_if, BeginsAs, IsCutRefusal}
+use Rattle.osm_mirror.specs.run.LinesFrom.{AreLinesOf}
 use Rattle.osm_mirror.specs.run.Probes.{HaveBytes, IsTotal, FindsBy, FindsIn, FindsInAll}
-use Rattle.osm_mirror.specs.run.ShardExtent.{size_if_opl, IsOplSize}
+use Rattle.osm_mirror.specs.run.ShardExtent.{size_if_opl, IsOplSize, small_size, is_read_whole}
 use Rattle.osm_mirror.specs.run.ShardRefusal.{IsFileRefusal}
-use Rattle.osm_mirror.proofs.run_laws.SplitLineLaws.{split_lines, split_versions}
 use Rattle.osm_mirror.proofs.run_laws.FilesJobLaws.{cut}
 
 -- ---- the first byte of a file
@@ -75,55 +71,57 @@ opl_sized (Some all) size h =
       | false ↦ λ e k. absurd (let no : Some size ≡ None = k in cc)
     ] refl h
 
+-- ---- which files are read whole
+-- a small file is read whole
+pub small_whole : (known : Option (List ℕ)) (size : ℕ) → IfSome known (λ all. size ≡ length all) → size ≤ small_size →
+    IfSome known (λ all. true ≡ is_read_whole all)
+small_whole None size is few = tt
+small_whole (Some all) size is few =
+    ap (λ t. t || not (is_opl all)) (sym (le-leb (length all) small_size (omega (arith, is, few))))
+
+-- another file is read whole if it begins as an o5 file does
+pub large_whole : (known : Option (List ℕ)) (size : ℕ) (is_o5 : Bool) → IfSome known (λ all. size ≡ length all) → small_size < size →
+    BeginsAs known 0 is_o5 → IfSome known (λ all. is_o5 ≡ is_read_whole all)
+large_whole None size is_o5 is many begins = tt
+large_whole (Some all) size is_o5 is many begins =
+    sym (ap (λ t. t || not (is_opl all)) (lt-leb (length all) small_size (omega (arith, is, many)))
+    ∙ ap not (opl_is all is_o5 begins) ∙ not-not is_o5)
+
 -- a search in an OPL file that is refused refuses the file
 pub probe_refuses : (Fails : Type 0) (known : Option (List ℕ)) (size : ℕ) (fault : Fault) →
     IfSome known (λ all. (is_opl all ≡ true) × (size ≡ length all)) → IsCutRefusal Fails known fault → IsFileRefusal Fails known fault
 probe_refuses Fails None size fault is refused = inr tt
 probe_refuses Fails (Some all) size fault (opl, is) refused =
-    ⊎_elim
-    (λ short. ⊎_elim (λ failure. inl failure)
-    (λ none. inr (λ held h. none h.versions (opl_file all h.versions opl h.file))) (refused short))
-    (λ long. inr (λ held h. (let short = h.short in absurd (omega (arith, short, long)))))
-    (cases_lt (length all) (2 ^ 62))
-
--- ---- one probe
-found_object : (all : List ℕ) (lines : LinesFrom) → AreLines all lines → length all < 2 ^ 62 → (versions : List VersionData) →
-    OplFile all versions → lines.object ≡ first_object lines.offset all
-found_object all lines h short versions file =
-    let from = lines_from lines.offset all in
-    let parts = split_versions all from (split_lines lines.offset all) versions file in
-    h.object short parts.later parts.second ∙ ap object_of_first (sym (lines_read from parts.later parts.second))
+    ⊎_elim (λ failure. inl failure) (λ none. inr (λ held h. none h.versions (opl_file all h.versions opl h.file))) refused
 
 -- ---- all probes of a file
 -- the objects of the probes from a number on were appended: with those of the probes before it, they are those of all probes
 abbrev pub FindsFrom : Option (List ℕ) → ℕ → ℕ → ℕ → List Found → List Found → Type 0
-FindsFrom known size step number before after = IfSome known (λ all. size ≡ length all → length all < 2 ^ 62
-    → (versions : List VersionData) → OplFile all versions
+FindsFrom known size step number before after = IfSome known (λ all. size ≡ length all
     → after ++ found_by step all number ≡ before ++ found_by step all (probe_count step size))
 
 pub finds_none : (known : Option (List ℕ)) (size step number : ℕ) (found : List Found) → number ≡ probe_count step size →
     FindsFrom known size step number found found
 finds_none None size step number found is = tt
-finds_none (Some all) size step number found is = λ same short versions file. ap (λ n. found ++ found_by step all n) is
+finds_none (Some all) size step number found is = λ same. ap (λ n. found ++ found_by step all n) is
 
 pub finds_more : (known : Option (List ℕ)) (size step number next : ℕ) (lines : LinesFrom) (before found after : List Found) →
     FindsFrom known size step number before found → number ≡ next + 1 → lines.offset ≡ next * step → AreLinesOf known lines →
     after ≡ found ++ found_once (min step (size - lines.offset)) lines.object → FindsFrom known size step next before after
 finds_more None size step number next lines before found after h one at are is = tt
-finds_more (Some all) size step number next lines before found after h one at are is = λ same short versions file.
-    let object = found_object all lines are short versions file in
+finds_more (Some all) size step number next lines before found after h one at are is = λ same.
     let here : found_once (min step (size - lines.offset)) lines.object ≡ found_at step all (next * step) =
-    (λ i. found_once (min step (same i - lines.offset)) (object i)) ∙ ap (found_at step all) at in
+    (λ i. found_once (min step (same i - lines.offset)) (are.object i)) ∙ ap (found_at step all) at in
     let e : number ≡ suc next = omega (arith, one) in
     ap (λ xs. xs ++ found_by step all next) (is ∙ ap (λ xs. found ++ xs) here)
     ∙ append_assoc found (found_at step all (next * step)) (found_by step all next)
-    ∙ ap (λ n. found ++ found_by step all n) (sym e) ∙ h same short versions file
+    ∙ ap (λ n. found ++ found_by step all n) (sym e) ∙ h same
 
 pub finds_all : (known : Option (List ℕ)) (size step number : ℕ) (before after : List Found) →
     FindsFrom known size step number before after → number ≡ 0 → FindsBy known size step before after
 finds_all None size step number before after h none = tt
-finds_all (Some all) size step number before after h none = λ same short versions file.
-    sym (append-nil after) ∙ ap (λ n. after ++ found_by step all n) (sym none) ∙ h same short versions file
+finds_all (Some all) size step number before after h none = λ same.
+    sym (append-nil after) ∙ ap (λ n. after ++ found_by step all n) (sym none) ∙ h same
 
 -- the probe with a number is within the file
 pub within : (number step size : ℕ) → 0 < step → number < probe_count step size → number * step < size
@@ -262,21 +260,13 @@ module _ {F : Type 0} (known : F → Option (List ℕ)) where
       omega (arith, before, both, whole, long, few)
 
   pub all_none : (step : ℕ) → FindsInAll known step [] []
-  all_none step [] held have holds = refl
-  all_none step (b ∷ all) held have holds = absurd have
-
-  last_held : (step : ℕ) (bytes : List ℕ) (held : List VersionSet) → Pairwise HoldsSorted (bytes ∷ []) held →
-      (set : VersionSet) × HoldsSorted bytes set
-  last_held step bytes [] h = absurd h
-  last_held step bytes (s ∷ held) h = (s, h.0)
+  all_none step [] have = refl
+  all_none step (b ∷ all) have = absurd have
 
   pub all_more : (step : ℕ) (files : List F) (file : F) (found after : List Found) → FindsInAll known step files found →
       FindsIn (known file) step found after → FindsInAll known step (files ++ file ∷ []) after
-  all_more step files file found after h one all held have holds =
+  all_more step files file found after h one all have =
       let d = divided has_bytes files file all have in
-      let c = cut HoldsSorted d.before (d.bytes ∷ []) held (subst (λ (xs : List (List ℕ)). Pairwise HoldsSorted xs held) d.are holds) in
-      let last = last_held step d.bytes c.after c.second in
-      let here = MatchOption-at_some _ (λ b. (s : VersionSet) → HoldsSorted b s → after ≡ found ++ found_in step b) d.bytes d.last one
-      last.0 last.1 in
-      here ∙ (λ i. h d.before c.before d.first c.first i ++ sym (append-nil (found_in step d.bytes)) i)
+      let here = MatchOption-at_some _ (λ b. after ≡ found ++ found_in step b) d.bytes d.last one in
+      here ∙ (λ i. h d.before d.first i ++ sym (append-nil (found_in step d.bytes)) i)
       ∙ sym (flat_map-append (found_in step) d.before (d.bytes ∷ [])) ∙ ap (found_in_all step) (sym d.are)

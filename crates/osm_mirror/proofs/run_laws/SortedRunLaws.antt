@@ -15,9 +15,10 @@ use Rattle.osm_files.specs.O5.{end_byte, reset_byte, FilePart, Reset, Lone, Skip
 use Rattle.osm_files.specs.Units.{InOpl, BeforeHeader, start_of}
 use Rattle.osm_files.specs.Held.{IsFile, Holds}
 use Rattle.osm_files.specs.SortedRun.{SplitAfterLine, SplitAtReset, IsSplitInto}
+use Rattle.osm_files.specs.Lines.{lines_of}
 use Rattle.osm_files.specs.Spell.{spell}
 use Rattle.osm_files.proofs.FileLaws.{Header}
-use Rattle.osm_files.proofs.JoinLaws.{lines_of, lines_after, header_starts, bytes_of, after_header, starts_as}
+use Rattle.osm_files.proofs.JoinLaws.{lines_after, header_starts, bytes_of, after_header, starts_as}
 use Rattle.osm_files.proofs.JoinLaws.{starts_with_reset}
 use Rattle.osm_files.proofs.SpellLaws.{held_is_one_set}
 use Rattle.osm_merge.specs.Selected.{selection_of}

@@ -60,7 +60,8 @@ use Rattle.osm_files.proofs.SpellLaws.{equal_sets as equal, in_none}
 use Rattle.osm_merge.proofs.SliceSources.{dropped_is_slice, dropped_of_whole, dropped_to_the_end, refused_is_inside, inside_is_given}
 use Rattle.osm_mirror.specs.declared.run.input.InputFile.{InputFile}
 use Rattle.osm_mirror.specs.declared.run.input.ReadAs.{ReadAs}
-use Rattle.osm_mirror.specs.declared.run.input.ReadAs.TheVariants.{Sorted, Any, Within}
+use Rattle.osm_mirror.specs.declared.run.files_job.Order.TheVariants.{Sorted, Any}
+use Rattle.osm_mirror.specs.declared.run.input.ReadAs.TheVariants.{InOrder, Within}
 use Rattle.osm_mirror.specs.declared.run.source.InputSource.{InputSource}
 use Rattle.osm_mirror.specs.declared.run.source.InputSource.TheVariants.{Streamed, Held, Sliced}
 use Rattle.osm_mirror.specs.run.Job.{union_of}
@@ -257,8 +258,8 @@ yields_set given held is = (ap (λ (s : source.VersionsToCome). s.refusal) is, a
 
 -- the source of a file that can be read in its way
 pub as_given : (number : ℕ) (input : ReadAs × InputRest) (held : VersionSet) → IsFileAs input held → Yields (source_of number input) held
-as_given number (Sorted, c) held h = yields_set (sorted_source number c) held (source_sorted number c held h.unbroken h.file)
-as_given number (Any, c) held h = yields_set (held_source number c) held (file_read number c held h)
+as_given number (InOrder Sorted, c) held h = yields_set (sorted_source number c) held (source_sorted number c held h.unbroken h.file)
+as_given number (InOrder Any, c) held h = yields_set (held_source number c) held (file_read number c held h)
 as_given number (Within span Refused, c) part (file, inside) =
     let is = yields_set (sorted_source number c) part (source_sorted number c part file.unbroken file.file) in
     let same = inside_is_given number span (sorted_source number c) (source_rises number c) (subst (IsWithin span) (sym is.1) inside) in
@@ -271,13 +272,13 @@ as_given number (Within span Dropped, c) part (held, file, is) = (
 
 gives_as : (number : ℕ) (input : ReadAs × InputRest) → (source_of number input).refusal ≡ None
     → GivesAs input (members (source_of number input))
-gives_as number (Sorted, c) e = gives number c e
-gives_as number (Any, c) e = file_gives number c e
+gives_as number (InOrder Sorted, c) e = gives number c e
+gives_as number (InOrder Any, c) e = file_gives number c e
 gives_as number (Within span outside, c) e = has_slice number span outside c e
 
 rises : (number : ℕ) (input : ReadAs × InputRest) → Ascends (source_of number input)
-rises number (Sorted, c) = source_rises number c
-rises number (Any, c) =
+rises number (InOrder Sorted, c) = source_rises number c
+rises number (InOrder Any, c) =
     subst (λ (s : source.VersionsToCome). Ascends s) (sym (held_is number c))
     (read_rises (refusal number c) (versions_of (units_from None 0 c).list))
 rises number (Within span outside, c) = ascends_in state.Open outside number span (sorted_source number c) (source_rises number c)
@@ -327,8 +328,8 @@ as_all_given number (input ∷ inputs) (s ∷ held) h =
 -- ---- inputs that can't be read
 can_be_read : (number : ℕ) (input : ReadAs × InputRest) (held : VersionSet) (fault : Fault) → IsFileAs input held
     → CannotBeRead number input fault → ⊥
-can_be_read number (Sorted, c) held fault h unread = unread
-can_be_read number (Any, c) held fault h unread = let f : None ≡ Some fault = sym (file_refusal number c held h) ∙ unread in cc
+can_be_read number (InOrder Sorted, c) held fault h unread = unread
+can_be_read number (InOrder Any, c) held fault h unread = let f : None ≡ Some fault = sym (file_refusal number c held h) ∙ unread in cc
 can_be_read number (Within span outside, c) held fault h unread = unread
 
 pub not_unread : (number : ℕ) (inputs : List (ReadAs × InputRest)) (held : List VersionSet) (fault : Fault) → Pairwise IsFileAs inputs held
@@ -354,10 +355,10 @@ unread_more number input rest fault (inr h) = inr (inr h)
 -- ---- sources that were opened
 module _ {R : Type 0} (can : R → InputRest → Type 0) (end : EndRule) (number : ℕ) (reader : R) where
   pub stream_opens : (s : FileSourceData R) → s ≡ ended_source end number reader
-      → IsOpened can number (file_by end Sorted reader) (Streamed s)
+      → IsOpened can number (file_by end (InOrder Sorted) reader) (Streamed s)
   stream_opens s is still h =
       let q = one_gives can end number reader still (subst (λ (x : FileSourceData R). FileCanGive can x still) is h) in
-      ((Sorted, q.0), (refl, q.1), (q.2, tt))
+      ((InOrder Sorted, q.0), (refl, q.1), (q.2, tt))
 
   -- A sorted file is opened as a source of its versions within a span.
   pub slice_opens : (span : Span) (outside : Outside) (s : FileSourceData R) (w : within.Within (FileSourceData R)) →
@@ -372,18 +373,19 @@ module _ {R : Type 0} (can : R → InputRest → Type 0) (end : EndRule) (number
 -- A file that was loaded is opened as a source of its set.
 pub load_opens : {R : Type 0} (can : R → InputRest → Type 0) (end : EndRule) (number : ℕ) (reader : R) (loaded : Loaded)
     (set : VersionSet) → set ≡ loaded.history → GivesOne (can reader) (λ c. Loads (by_rule end c) loaded)
-    → IsOpened can number (file_by end Any reader) (Held set)
+    → IsOpened can number (file_by end (InOrder Any) reader) (Held set)
 load_opens can end number reader loaded set is h still e =
     let c : InputRest = by_rule end h.0 in
     let file : GivesFile c loaded.history = record { unbroken = h.2.unbroken; file = h.2.holds } in
-    ((Any, c), (refl, (h.0, h.1, refl)), (e ∙ ap set_given is ∙ sym (file_read number c loaded.history file), (loaded.history, file)))
+    let given = e ∙ ap set_given is ∙ sym (file_read number c loaded.history file) in
+    ((InOrder Any, c), (refl, (h.0, h.1, refl)), (given, (loaded.history, file)))
 
 -- A file that isn't loaded isn't opened.
 pub load_stops : {R : Type 0} (can : R → InputRest → Type 0) (end : EndRule) (number : ℕ) (reader : R) (fault : Fault)
     → GivesOne (can reader) (λ c. StopsLoading number (by_rule end c) fault)
-    → GivesOne (InputFileCanGive can (file_by end Any reader)) (λ input. IsUnopened number (input ∷ []) fault)
+    → GivesOne (InputFileCanGive can (file_by end (InOrder Any) reader)) (λ input. IsUnopened number (input ∷ []) fault)
 load_stops can end number reader fault h =
-    ((Any, by_rule end h.0), (refl, (h.0, h.1, refl)), ⊎_elim (λ e. inl e) (λ e. inr (inl e)) h.2)
+    ((InOrder Any, by_rule end h.0), (refl, (h.0, h.1, refl)), ⊎_elim (λ e. inl e) (λ e. inr (inl e)) h.2)
 
 module _ {R : Type 0} (can : R → InputRest → Type 0) where
   pub opened_more : (number : ℕ) (files : List (InputFile R)) (opened : List (InputSource R)) (file : InputFile R) (s : InputSource R)

@@ -1,7 +1,6 @@
 -- Jobs for a span of files: what they write, and why they are refused.
-use Rattle.std.proofs.Common.{◌≡◌, ◌⊎◌, inl, inr, ⊎_elim, ℕ, zero, suc, ◌+◌, ◌≤◌, ◌<◌, ◌^◌, Bool, List, [], ◌∷◌, length, map}
-use Rattle.std.proofs.Common.{Option, Some, None, IfSome, slice_get, refl, sym, ap, ◌∙◌, subst, arith, sum_by}
-use Rattle.std.specs.Prelude.{unwrap_or}
+use Rattle.std.proofs.Common.{◌≡◌, ◌⊎◌, inl, inr, ⊎_elim, ℕ, zero, suc, ◌+◌, ◌≤◌, ◌<◌, ◌^◌, List, [], ◌∷◌, ◌++◌, length, map}
+use Rattle.std.proofs.Common.{Option, Some, None, IfSome, slice_get, refl, sym, ap, ◌∙◌, subst, arith, sum_by, Bor, ◌-◌}
 use Rattle.std.proofs.lemmas.Bool.{cases_lt}
 use Rattle.std.proofs.lemmas.Option.{slice_get_past}
 use Rattle.osm_model.specs.VersionSet.{VersionSet}
@@ -11,39 +10,55 @@ use Rattle.osm_files.specs.declared.fault.Fault.{Fault}
 use Rattle.osm_files.specs.declared.format.Format.{Format}
 use Rattle.osm_files.specs.declared.reason.Reason.TheVariants.{Memory}
 use Rattle.osm_files.specs.declared.end_rule.EndRule.{EndRule}
+use Rattle.osm_files.specs.declared.end_rule.EndRule.TheVariants as rule
+use Rattle.osm_files.specs.declared.output.Output.{Ghosts}
+use Rattle.osm_files.specs.declared.sorted_run.SortedRun.{SortedRun}
+use Rattle.osm_files.specs.Change.{change_of}
 use Rattle.osm_files.specs.Extent.{RunCanGive}
 use Rattle.osm_files.specs.Fault.{memory_fault, too_long_fault, fault_at}
 use Rattle.osm_files.specs.Held.{HoldsSorted}
 use Rattle.osm_files.specs.Input.{InputRest}
 use Rattle.osm_files.specs.Output.{Change, Appends}
-use Rattle.osm_files.specs.Sink.{CutShort, WhyCut}
+use Rattle.osm_files.specs.Sink.{CutShort}
+use Rattle.osm_files.specs.SortedRun.{offset_in_file}
 use Rattle.osm_files.specs.Spell.{spell}
 use Rattle.osm_files.proofs.RunOrderLaws.{moved_failure}
 use Rattle.osm_merge.specs.declared.merge.Counts.{Counts}
 use Rattle.osm_merge.specs.declared.span.Span.{Span}
 use Rattle.osm_merge.specs.declared.selection.Selection.{Selection}
-use Rattle.osm_merge.specs.declared.within.Outside.{Outside}
 use Rattle.osm_merge.specs.Giving.{AllGive, SomeInputsGive}
 use Rattle.osm_merge.specs.Selected.{selection_of}
 use Rattle.osm_merge.specs.Slice.{slice_of}
 use Rattle.osm_merge.specs.ToCome.{rest_at}
 use Rattle.osm_merge.specs.Clashes.{clash_count}
 use Rattle.osm_merge.specs.Union.{capped_count}
+use Rattle.osm_merge.proofs.UnionLaws.{nothing_appended}
 use Rattle.osm_mirror.specs.declared.run.shard_extent.FileExtent.{FileExtent}
-use Rattle.osm_mirror.specs.declared.run.slice.SliceFile.{SliceFile}
+use Rattle.osm_mirror.specs.declared.run.file_way.FileWay.{FileWay}
+use Rattle.osm_mirror.specs.declared.run.files_job.FilesJob.{FilesJob}
+use Rattle.osm_mirror.specs.declared.run.files_job.JobFile.{JobFile}
+use Rattle.osm_mirror.specs.declared.run.files_job.JobFile.TheVariants.{File}
+use Rattle.osm_mirror.specs.declared.run.input.InputFile.{InputFile}
+use Rattle.osm_mirror.specs.declared.run.input.ReadAs.{ReadAs}
+use Rattle.osm_mirror.specs.declared.run.input.ReadAs.TheVariants.{Within}
 use Rattle.osm_mirror.specs.run.Bounds.{opl_size}
 use Rattle.osm_mirror.specs.run.FilesRefusal.{IsOutputFault}
 use Rattle.osm_mirror.specs.run.Probes.{HaveBytes}
 use Rattle.osm_mirror.specs.run.Job.{union_of}
-use Rattle.osm_mirror.specs.run.ShardExtent.{IsExtentOf, IsInputOf, AreInputsOf}
-use Rattle.osm_mirror.specs.run.ShardRefusal.{IsFileRefusal, IsFaultByRule, fault_in_extent, AreRefused, IsGood}
+use Rattle.osm_mirror.specs.run.FilesJob.{OpensFile, OpensFiles, OpensRun, fault_in_run_or, fault_in_files}
+use Rattle.osm_mirror.specs.run.Given.{GivesAs, IsFileAs, InputFileCanGive, CannotBeRead, IsUnread, source_of, sources}
+use Rattle.osm_mirror.specs.run.SelectedJob.{IsJob, RefusesJob}
+use Rattle.osm_mirror.specs.run.ShardExtent.{IsExtentOf, IsWayWithin, AreWaysWithin, opened_as_whole}
+use Rattle.osm_mirror.specs.run.ShardRefusal.{IsFileRefusal, IsFaultByRule, AreRefused, IsGood}
 use Rattle.osm_mirror.specs.run.ShardRefusal.{RefusesSpan, IsCutIfGood, IsLong}
 use Rattle.osm_mirror.specs.run.ShardJob.{shard_slices, IsSpanJob}
-use Rattle.osm_mirror.specs.run.SliceJob.{SliceFileCanGive, given_slice, given_slices, HasSlice, GivesSlice, IsSliceJob, RefusesSlice}
-use Rattle.osm_mirror.proofs.run_laws.FileExtentLaws.{found_is, good_is, fault_is, slice_number}
-use Rattle.osm_mirror.proofs.run_laws.FilesRefusalLaws.{at_is}
-use Rattle.osm_mirror.proofs.run_laws.OutputFaultLaws.{cut_why, long_of, output_number, output_also}
-use Rattle.osm_mirror.proofs.run_laws.FilesJobLaws.{as_pairs, pairwise_length}
+use Rattle.osm_mirror.specs.run.SliceJob.{given_slice}
+use Rattle.osm_mirror.specs.run.WaysJob.{IsJobInWays, RefusesInWays}
+use Rattle.osm_mirror.proofs.run_laws.FileExtentLaws.{found_is, good_is, fault_is}
+use Rattle.osm_mirror.proofs.run_laws.FilesRefusalLaws.{at_is, memory_found}
+use Rattle.osm_mirror.proofs.run_laws.InputRefusalLaws.{has_number}
+use Rattle.osm_mirror.proofs.run_laws.OutputFaultLaws.{cut_moved, cut_why, long_of, output_number, output_also}
+use Rattle.osm_mirror.proofs.run_laws.FilesJobLaws.{as_pairs, pairwise_length, plain_given}
 
 -- a refusal of a file that gets its number is one still
 pub numbered_refusal : (Fails : Type 0) (known : Option (List ℕ)) (number : ℕ) (fault : Fault) → IsFileRefusal Fails known fault
@@ -83,11 +98,6 @@ paired_at P (a ∷ xs) (y ∷ ys) zero x h e =
     let same : a ≡ x = (let f : Some a ≡ Some x = e in cc) in (y, subst (λ b. P b y) same h.0)
 paired_at P (a ∷ xs) (y ∷ ys) (suc k) x h e = paired_at P xs ys k x h.1 e
 
-some_at : {X : Type 0} (xs : List X) (k : ℕ) → k < length xs → (x : X) × (slice_get xs k ≡ Some x)
-some_at [] k low = absurd (omega (arith, low))
-some_at (x ∷ xs) zero low = (x, refl)
-some_at (x ∷ xs) (suc k) low = some_at xs k (omega (arith, low))
-
 mapped_is : (f : VersionSet → VersionSet) (xs ys : List VersionSet) → Pairwise (λ x y. x ≡ f y) xs ys → xs ≡ map f ys
 mapped_is f [] [] h = refl
 mapped_is f [] (y ∷ ys) h = absurd h
@@ -101,14 +111,68 @@ to_mapped P f [] (y ∷ ys) h = absurd h
 to_mapped P f (x ∷ xs) [] h = absurd h
 to_mapped P f (x ∷ xs) (y ∷ ys) h = (h.0, to_mapped P f xs ys h.1)
 
+-- ---- the runs of files
+-- the number of all runs of files that are read in these ways
+abbrev run_count : List FileWay → ℕ
+run_count [] = 0
+run_count (way ∷ ways) = length way.runs.items + run_count ways
+
+-- each file is read as one run, if there is a span
+abbrev AreOnes : Option Span → List FileWay → Type 0
+AreOnes None ways = Unit {0}
+AreOnes (Some span) [] = Unit {0}
+AreOnes (Some span) (way ∷ ways) = ((run : SortedRun) × (way.runs.items ≡ run ∷ [])) × AreOnes (Some span) ways
+
+-- a fault after the faults of all runs has the number of files
+past_runs : (ways : List FileWay) (n k : ℕ) (fault : Fault) → k ≡ run_count ways
+    → fault_in_files n ways k fault ≡ fault_at (n + length ways) fault.place fault.reason
+past_runs [] n k fault is = ap (λ (m : ℕ). fault_at m fault.place fault.reason) (let e : n ≡ n + 0 = omega arith in e)
+past_runs (way ∷ ways) n k fault is =
+    ap (λ (found : Option SortedRun). fault_in_run_or n found fault (fault_in_files (n + 1) ways (k - length way.runs.items) fault))
+    (slice_get_past way.runs.items k (omega (arith, is)))
+    ∙ past_runs ways (n + 1) (k - length way.runs.items) fault (omega (arith, is))
+    ∙ ap (λ (m : ℕ). fault_at m fault.place fault.reason) (let e : n + 1 + length ways ≡ n + suc (length ways) = omega arith in e)
+
+-- the fault of one of the runs, if each file is one run
+at_one : (span : Span) (ways : List FileWay) (n k : ℕ) (fault : Fault) → AreOnes (Some span) ways → k < length ways
+    → (run : SortedRun) × (fault_in_files n ways k fault ≡ fault_at (n + k) (offset_in_file run fault.place) fault.reason)
+at_one span [] n k fault ones low = absurd (omega (arith, low))
+at_one span (way ∷ ways) n zero fault ((run, is), ones) low = (
+  run,
+  ap (λ (runs : List SortedRun). fault_in_run_or n (slice_get runs 0) fault
+      (fault_in_files (n + 1) ways (0 - length way.runs.items) fault)) is
+      ∙ ap (λ (m : ℕ). fault_at m (offset_in_file run fault.place) fault.reason) (let e : n ≡ n + 0 = omega arith in e),
+)
+at_one span (way ∷ ways) n (suc k) fault ((run, is), ones) low =
+    let one = at_one span ways (n + 1) k fault ones (omega (arith, low)) in
+    let left : suc k - length way.runs.items ≡ k = omega (arith, ap length is) in (
+      one.0,
+      ap (λ (runs : List SortedRun). fault_in_run_or n (slice_get runs (suc k)) fault
+          (fault_in_files (n + 1) ways (suc k - length way.runs.items) fault)) is
+          ∙ ap (λ (j : ℕ). fault_in_files (n + 1) ways j fault) left ∙ one.1
+          ∙ ap (λ (m : ℕ). fault_at m (offset_in_file one.0 fault.place) fault.reason)
+          (let e : n + 1 + k ≡ n + suc k = omega arith in e),
+    )
+
 -- ---- one input
-module _ {F R : Type 0} (known : F → Option (List ℕ)) (fails : F → Type 0) (can : R → InputRest → Type 0) where
+module _ {F I : Type 0} (known : F → Option (List ℕ)) (fails : F → Type 0) (gives : I → InputRest → Type 0) where
+  -- an input is an extent of a file within a span: the input can give only what the extent of the file gives
+  pub record IsInputOf (span : Span) (file : F) (input : InputFile I) : Type 0 where
+    pub extent : FileExtent
+    pub is : IsExtentOf span (known file) extent
+    pub how_is : input.read_as ≡ Within span extent.outside
+    pub end_is : input.end ≡ rule.Any
+    pub reads : (c : InputRest) → gives input.reader c → RunCanGive (fails file) (known file) extent.run extent.size c
+
   module _ (span : Span) where
     abbrev slice : VersionSet → VersionSet
     slice set = slice_of span.from span.to set
 
-    abbrev Input : F → SliceFile R → Type 0
-    Input file input = IsInputOf known fails can span file input
+    abbrev Input : F → InputFile I → Type 0
+    Input file input = IsInputOf span file input
+
+    abbrev Gives : InputFile I → ReadAs × InputRest → Type 0
+    Gives input given = InputFileCanGive gives input given
 
     -- the set of a file
     abbrev Set : F → VersionSet → Type 0
@@ -118,64 +182,71 @@ module _ {F R : Type 0} (known : F → Option (List ℕ)) (fails : F → Type 0)
     abbrev GoodSet : F → VersionSet → Type 0
     GoodSet file set = (bytes : List ℕ) × IsGood known fails file bytes × HoldsSorted bytes set
 
-    input_found : (file : F) (input : SliceFile R) (set : VersionSet) (given : Outside × InputRest) (found : VersionSet)
-        → Input file input → Set file set → SliceFileCanGive can input given → HasSlice span given found → found ≡ slice set
-    input_found file input set given found i (all, is, holds) gives has =
-        found_is span (fails file) all i.extent (subst (λ k. IsExtentOf span k i.extent) is i.is) input.outside i.outside set holds given
-        found
-        (sym gives.0) (subst (λ k. RunCanGive (fails file) k i.extent.run i.extent.size given.1) is (i.reads given.1 gives.1)) has
+    way_is : (file : F) (input : InputFile I) (how : ReadAs) (c : InputRest) → (i : Input file input) → Gives input (how, c)
+        → how ≡ Within span i.extent.outside
+    way_is file input how c i g = sym g.0 ∙ i.how_is
 
-    input_good : (file : F) (input : SliceFile R) (set : VersionSet) (given : Outside × InputRest) → Input file input
-        → GoodSet file set → SliceFileCanGive can input given → GivesSlice span given (slice set)
-    input_good file input set given i (all, (is, never), holds) gives =
-        good_is span (fails file) all i.extent (subst (λ k. IsExtentOf span k i.extent) is i.is) input.outside i.outside set holds never
-        given
-        (sym gives.0) (subst (λ k. RunCanGive (fails file) k i.extent.run i.extent.size given.1) is (i.reads given.1 gives.1))
+    run_gives : (file : F) (input : InputFile I) (how : ReadAs) (c : InputRest) → (i : Input file input) → Gives input (how, c)
+        → RunCanGive (fails file) (known file) i.extent.run i.extent.size c
+    run_gives file input how c i g = i.reads c (plain_given gives input how c i.end_is g)
 
-    known_fault : (Fails : Type 0) (k : Option (List ℕ)) (extent : FileExtent) (outside : Outside) (number : ℕ) (given : Outside
-        × InputRest)
-        (fault : Fault) → IsExtentOf span k extent → outside ≡ extent.outside → given.0 ≡ outside
-        → RunCanGive Fails k extent.run extent.size given.1 → (given_slice span number given).refusal ≡ Some fault
-        → IsFileRefusal Fails k fault
-    known_fault Fails None extent outside number given fault is outside_is e gives refused = inr tt
-    known_fault Fails (Some all) extent outside number given fault is outside_is e gives refused =
-        fault_is span Fails all extent is outside outside_is number given fault e gives refused
+    input_found : (file : F) (input : InputFile I) (set : VersionSet) (given : ReadAs × InputRest) (found : VersionSet)
+        → Input file input → Set file set → Gives input given → GivesAs given found → found ≡ slice set
+    input_found file input set (how, c) found i (all, is, holds) g has =
+        found_is span (fails file) all i.extent (subst (λ k. IsExtentOf span k i.extent) is i.is) i.extent.outside refl set holds
+        (i.extent.outside, c) found refl
+        (subst (λ k. RunCanGive (fails file) k i.extent.run i.extent.size c) is (run_gives file input how c i g))
+        (subst (λ (h : ReadAs). GivesAs (h, c) found) (way_is file input how c i g) has)
 
-    input_fault : (file : F) (input : SliceFile R) (number : ℕ) (given : Outside × InputRest) (fault : Fault) → Input file input
-        → SliceFileCanGive can input given → (given_slice span number given).refusal ≡ Some fault
-        → IsFileRefusal (fails file) (known file) fault
-    input_fault file input number given fault i gives refused =
-        known_fault (fails file) (known file) i.extent input.outside number given fault i.is i.outside (sym gives.0)
-        (i.reads given.1 gives.1) refused
+    input_good : (file : F) (input : InputFile I) (set : VersionSet) (given : ReadAs × InputRest) → Input file input
+        → GoodSet file set → Gives input given → IsFileAs given (slice set)
+    input_good file input set (how, c) i (all, (is, never), holds) g =
+        subst (λ (h : ReadAs). IsFileAs (h, c) (slice set)) (sym (way_is file input how c i g))
+        (good_is span (fails file) all i.extent (subst (λ k. IsExtentOf span k i.extent) is i.is) i.extent.outside refl set holds never
+        (i.extent.outside, c) refl
+        (subst (λ k. RunCanGive (fails file) k i.extent.run i.extent.size c) is (run_gives file input how c i g)))
+
+    known_fault : (Fails : Type 0) (k : Option (List ℕ)) (extent : FileExtent) (number : ℕ) (c : InputRest) (fault : Fault)
+        → IsExtentOf span k extent → RunCanGive Fails k extent.run extent.size c
+        → (given_slice span number (extent.outside, c)).refusal ≡ Some fault → IsFileRefusal Fails k fault
+    known_fault Fails None extent number c fault is gives refused = inr tt
+    known_fault Fails (Some all) extent number c fault is gives refused =
+        fault_is span Fails all extent is extent.outside refl number (extent.outside, c) fault refl gives refused
+
+    slice_refused : (file : F) (input : InputFile I) (number : ℕ) (how : ReadAs) (c : InputRest) (fault : Fault)
+        → (i : Input file input) → Gives input (how, c) → (source_of number (how, c)).refusal ≡ Some fault
+        → (given_slice span number (i.extent.outside, c)).refusal ≡ Some fault
+    slice_refused file input number how c fault i g e =
+        subst (λ (h : ReadAs). (source_of number (h, c)).refusal ≡ Some fault) (way_is file input how c i g) e
 
     -- ---- all inputs
     sets_of : (files : List F) (all : List (List ℕ)) (held : List VersionSet) → HaveBytes known files all
         → Pairwise HoldsSorted all held → Pairwise Set files held
     sets_of = chained (λ file bytes. known file ≡ Some bytes) HoldsSorted Set (λ file bytes set is holds. (bytes, is, holds))
 
-    parts_are : (files : List F) (inputs : List (SliceFile R)) (given : List (Outside × InputRest)) (found held : List VersionSet)
-        → Pairwise Input files inputs → Pairwise Set files held → AllGive (SliceFileCanGive can) inputs given
-        → Pairwise (HasSlice span) given found → found ≡ map slice held
+    parts_are : (files : List F) (inputs : List (InputFile I)) (given : List (ReadAs × InputRest)) (found held : List VersionSet)
+        → Pairwise Input files inputs → Pairwise Set files held → AllGive (InputFileCanGive gives) inputs given
+        → Pairwise GivesAs given found → found ≡ map slice held
     parts_are files inputs given found held i s g h =
         let of_inputs = turned Input Set (λ input set. (file : F) × Input file input × Set file set)
         (λ file input set a b. (file, a, b)) files inputs held i s in
-        let of_given = turned (SliceFileCanGive can) (λ input set. (file : F) × Input file input × Set file set)
-        (λ c set. (extent : VersionSet) → HasSlice span c extent → extent ≡ slice set)
+        let of_given = turned (InputFileCanGive gives) (λ input set. (file : F) × Input file input × Set file set)
+        (λ c set. (extent : VersionSet) → GivesAs c extent → extent ≡ slice set)
         (λ input c set gives (file, a, b) extent has. input_found file input set c extent a b gives has) inputs given held
-        (as_pairs (SliceFileCanGive can) inputs given g) of_inputs in
-        mapped_is slice found held (turned (HasSlice span) (λ c set. (extent : VersionSet) → HasSlice span c extent → extent ≡ slice set)
+        (as_pairs (InputFileCanGive gives) inputs given g) of_inputs in
+        mapped_is slice found held (turned GivesAs (λ c set. (extent : VersionSet) → GivesAs c extent → extent ≡ slice set)
         (λ extent set. extent ≡ slice set) (λ c extent set has one. one extent has) given found held h of_given)
 
-    slices_given : (files : List F) (inputs : List (SliceFile R)) (given : List (Outside × InputRest)) (held : List VersionSet)
-        → Pairwise Input files inputs → Pairwise GoodSet files held → AllGive (SliceFileCanGive can) inputs given
-        → Pairwise (GivesSlice span) given (map slice held)
+    slices_given : (files : List F) (inputs : List (InputFile I)) (given : List (ReadAs × InputRest)) (held : List VersionSet)
+        → Pairwise Input files inputs → Pairwise GoodSet files held → AllGive (InputFileCanGive gives) inputs given
+        → Pairwise IsFileAs given (map slice held)
     slices_given files inputs given held i s g =
         let of_inputs = turned Input GoodSet (λ input set. (file : F) × Input file input × GoodSet file set)
         (λ file input set a b. (file, a, b)) files inputs held i s in
-        to_mapped (GivesSlice span) slice given held
-        (turned (SliceFileCanGive can) (λ input set. (file : F) × Input file input × GoodSet file set)
-        (λ c set. GivesSlice span c (slice set)) (λ input c set gives (file, a, b). input_good file input set c a b gives) inputs given
-        held (as_pairs (SliceFileCanGive can) inputs given g) of_inputs)
+        to_mapped IsFileAs slice given held
+        (turned (InputFileCanGive gives) (λ input set. (file : F) × Input file input × GoodSet file set)
+        (λ c set. IsFileAs c (slice set)) (λ input c set gives (file, a, b). input_good file input set c a b gives) inputs given
+        held (as_pairs (InputFileCanGive gives) inputs given g) of_inputs)
 
     -- the file of an input that is refused
     record Refusal (n : ℕ) (files : List F) (fault : Fault) : Type 0 where
@@ -194,31 +265,42 @@ module _ {F R : Type 0} (known : F → Option (List ℕ)) (fails : F → Type 0)
       of = r.of;
     }
 
-    refused_at : (n k : ℕ) (files : List F) (inputs : List (SliceFile R)) (given : List (Outside × InputRest)) (fault : Fault)
-        → Pairwise Input files inputs → AllGive (SliceFileCanGive can) inputs given → k < length (given_slices n span given)
-        → (rest_at (given_slices n span given) k).refusal ≡ Some fault → Refusal n files fault
+    refused_at : (n k : ℕ) (files : List F) (inputs : List (InputFile I)) (given : List (ReadAs × InputRest)) (fault : Fault)
+        → Pairwise Input files inputs → AllGive (InputFileCanGive gives) inputs given → k < length (sources n given)
+        → (rest_at (sources n given) k).refusal ≡ Some fault → Refusal n files fault
     refused_at n k files inputs [] fault i g low e = absurd (omega (arith, low))
-    refused_at n k files [] (c ∷ given) fault i g low e = absurd g
-    refused_at n k [] (input ∷ inputs) (c ∷ given) fault i g low e = absurd i
-    refused_at n zero (file ∷ files) (input ∷ inputs) (c ∷ given) fault i g low e = record {
-      k = 0;
-      file = file;
-      at = refl;
-      input_is = slice_number span n c fault e ∙ (let same : n ≡ n + 0 = omega arith in same);
-      of = input_fault file input n c fault i.0 g.0 e;
-    }
-    refused_at n (suc k) (file ∷ files) (input ∷ inputs) (c ∷ given) fault i g low e =
+    refused_at n k files [] (x ∷ given) fault i g low e = absurd g
+    refused_at n k [] (input ∷ inputs) (x ∷ given) fault i g low e = absurd i
+    refused_at n zero (file ∷ files) (input ∷ inputs) ((how, c) ∷ given) fault i g low e =
+        let refused = slice_refused file input n how c fault i.0 g.0 e in record {
+          k = 0;
+          file = file;
+          at = refl;
+          input_is = has_number n (how, c) fault e ∙ (let same : n ≡ n + 0 = omega arith in same);
+          of = known_fault (fails file) (known file) i.0.extent n c fault i.0.is (run_gives file input how c i.0 g.0) refused;
+        }
+    refused_at n (suc k) (file ∷ files) (input ∷ inputs) (x ∷ given) fault i g low e =
         next_refusal n file files fault (refused_at (n + 1) k files inputs given fault i.1 g.1 (omega (arith, low)) e)
 
-  -- ---- what the job writes
-  no_sets : (given : List (Outside × InputRest)) (found : List VersionSet) (span : Span) → given ≡ []
-      → Pairwise (HasSlice span) given found → found ≡ []
-  no_sets [] [] span is h = refl
-  no_sets [] (s ∷ found) span is h = absurd h
-  no_sets (c ∷ given) found span is h = absurd (omega (arith, ap length is))
+    -- no input is read to its end first
+    none_unread : (n : ℕ) (files : List F) (inputs : List (InputFile I)) (given : List (ReadAs × InputRest)) (fault : Fault)
+        → Pairwise Input files inputs → AllGive (InputFileCanGive gives) inputs given → IsUnread n given fault → ⊥
+    none_unread n files inputs [] fault i g u = u
+    none_unread n files [] (x ∷ given) fault i g u = absurd g
+    none_unread n [] (input ∷ inputs) (x ∷ given) fault i g u = absurd i
+    none_unread n (file ∷ files) (input ∷ inputs) ((how, c) ∷ given) fault i g (inl one) =
+        subst (λ (h : ReadAs). CannotBeRead n (h, c) fault) (way_is file input how c i.0 g.0) one
+    none_unread n (file ∷ files) (input ∷ inputs) (x ∷ given) fault i g (inr more) =
+        none_unread (n + 1) files inputs given fault i.1 g.1 more
 
-  none_given : (inputs : List (SliceFile R)) (given : List (Outside × InputRest)) → inputs ≡ []
-      → AllGive (SliceFileCanGive can) inputs given
+  -- ---- what the job writes
+  no_sets : (given : List (ReadAs × InputRest)) (found : List VersionSet) → given ≡ [] → Pairwise GivesAs given found → found ≡ []
+  no_sets [] [] is h = refl
+  no_sets [] (s ∷ found) is h = absurd h
+  no_sets (c ∷ given) found is h = absurd (omega (arith, ap length is))
+
+  none_given : (inputs : List (InputFile I)) (given : List (ReadAs × InputRest)) → inputs ≡ []
+      → AllGive (InputFileCanGive gives) inputs given
       → given ≡ []
   none_given [] [] is g = refl
   none_given [] (c ∷ given) is g = absurd g
@@ -236,59 +318,26 @@ module _ {F R : Type 0} (known : F → Option (List ℕ)) (fails : F → Type 0)
     clashes_count = clashes ∙ ap (λ (xs : List VersionSet). capped_count (clash_count (union_of xs))) same;
   }
 
+  -- the inputs are the extents of these files within a span, one for one; without a span there are none
+  abbrev pub AreInputs : Option Span → List F → List (InputFile I) → Type 0
+  AreInputs None files inputs = inputs ≡ []
+  AreInputs (Some span) files inputs = Pairwise (IsInputOf span) files inputs
+
   -- A job over the extents of files is the job for the span.
-  pub span_run_is : (all_objects sliced : Span) (span : Option Span) → sliced ≡ unwrap_or span all_objects
-      → (files : List F) (inputs : List (SliceFile R))
-      → AreInputsOf known fails can span files inputs → (selection : Selection) (format : Format) (change : Change) (counts : Counts)
-      → SomeInputsGive (SliceFileCanGive can) inputs
-      (λ given. IsSliceJob (record { span = sliced; selection = selection }) given format change counts)
+  span_run_is : (span : Option Span) (files : List F) (inputs : List (InputFile I)) → AreInputs span files inputs
+      → (selection : Selection) (format : Format) (change : Change) (counts : Counts)
+      → SomeInputsGive (InputFileCanGive gives) inputs (λ given. IsJob selection given format change counts)
       → (all : List (List ℕ)) (held : List VersionSet) → HaveBytes known files all → Pairwise HoldsSorted all held
       → IsSpanJob selection span held format change counts
-  span_run_is all_objects sliced None is files inputs are selection format change counts (given, g, run) all held have holds =
+  span_run_is None files inputs are selection format change counts (given, g, run) all held have holds =
       run_written selection format change counts None run.held held
-      (no_sets given run.held sliced (none_given inputs given are g) run.files) run.written run.written_count
-      run.clashes_count
-  span_run_is all_objects sliced (Some span) is files inputs are selection format change counts (given, g, run) all held have holds =
+      (no_sets given run.held (none_given inputs given are g) run.files) run.written run.written_count run.clashes_count
+  span_run_is (Some span) files inputs are selection format change counts (given, g, run) all held have holds =
       run_written selection format change counts (Some span) run.held held
-      (parts_are span files inputs given run.held held are (sets_of span files all held have holds) g
-      (subst (λ (s : Span). Pairwise (HasSlice s) given run.held) is run.files)) run.written
+      (parts_are span files inputs given run.held held are (sets_of span files all held have holds) g run.files) run.written
       run.written_count run.clashes_count
 
   -- ---- why the job is refused
-  abbrev Moved : List FileExtent → ℕ → Fault → Fault
-  Moved extents count fault = fault_in_extent fault count (slice_get extents fault.input)
-
-  moved_memory : (fault : Fault) (count : ℕ) (found : Option FileExtent) → fault ≡ memory_fault
-      → fault_in_extent fault count found ≡ memory_fault
-  moved_memory fault count None is = ap (λ (f : Fault). fault_at count f.place f.reason) is
-  moved_memory fault count (Some extent) is = rw is refl
-
-  -- a fault of the output
-  moved_output : (extents : List FileExtent) (count place : ℕ) (fault output : Fault) → fault ≡ output → output.input ≡ length extents
-      → Moved extents count fault ≡ fault_at count output.place output.reason
-  moved_output extents count place fault output is at =
-      ap (fault_in_extent fault count)
-      (ap (slice_get extents) (ap (λ f. f.input) is ∙ at) ∙ slice_get_past extents (length extents) (omega arith))
-      ∙ ap (λ (f : Fault). fault_at count f.place f.reason) is
-
-  why_moved : (extents : List FileExtent) (count : ℕ) (number : ℕ) (spelled : List ℕ) (taken : ℕ) (failed : Bool) (fault : Fault)
-      → number ≡ length extents → WhyCut number spelled taken failed fault → WhyCut count spelled taken failed (Moved extents count fault)
-  why_moved extents count number spelled taken failed fault many (inl memory) =
-      inl (moved_memory fault count (slice_get extents fault.input) memory)
-  why_moved extents count number spelled taken failed fault many (inr (inl (is, fails))) =
-      inr (inl (moved_output extents count 0 fault _ is many, fails))
-  why_moved extents count number spelled taken failed fault many (inr (inr (is, long))) =
-      inr (inr (moved_output extents count 0 fault _ is many, long))
-
-  cut_moved : (extents : List FileExtent) (count : ℕ) (number : ℕ) (change : Change) (spelled : List ℕ) (fault : Fault)
-      → number ≡ length extents → CutShort number change spelled fault → CutShort count change spelled (Moved extents count fault)
-  cut_moved extents count number change spelled fault many c = record {
-    count = c.count;
-    within = c.within;
-    appended = c.appended;
-    why = why_moved extents count number spelled c.count change.failed fault many c.why;
-  }
-
   abbrev Why : List F → Change → Type 0 → Fault → Type 0
   Why files change Long fault = AreRefused known fails IsFileRefusal files fault ⊎ IsOutputFault (length files) change Long fault
 
@@ -312,76 +361,174 @@ module _ {F R : Type 0} (known : F → Option (List ℕ)) (fails : F → Type 0)
   refusal_moved Fails k fault r same other (inl (inr (fails, read))) = inl (inr (fails, same ∙ read))
   refusal_moved Fails k fault r same other (inr none) = inr none
 
-  of_file : (span : Span) (files : List F) (extents : List FileExtent) (fault : Fault) → length extents ≡ length files
-      → Refusal span 0 files fault → AreRefused known fails IsFileRefusal files (Moved extents (length files) fault)
-  of_file span files extents fault many r =
+  of_file : (span : Span) (files : List F) (ways : List FileWay) (fault : Fault) → length ways ≡ length files → AreOnes (Some span) ways
+      → Refusal span 0 files fault → AreRefused known fails IsFileRefusal files (fault_in_files 0 ways fault.input fault)
+  of_file span files ways fault many ones r =
       let index : fault.input ≡ r.k = r.input_is ∙ (let e : 0 + r.k ≡ r.k = omega arith in e) in
-      let low : r.k < length extents = ⊎_elim (λ fine. fine)
+      let low : r.k < length ways = ⊎_elim (λ fine. fine)
       (λ far. absurd (let no : None ≡ Some r.file = sym (slice_get_past files r.k (omega (arith, far, many))) ∙ r.at in cc))
-      (cases_lt r.k (length extents)) in
-      let extent = some_at extents r.k low in
-      let found : slice_get extents fault.input ≡ Some extent.0 = ap (slice_get extents) index ∙ extent.1 in
-      let moved : Moved extents (length files) fault ≡ fault_in_extent fault (length files) (Some extent.0) =
-      ap (fault_in_extent fault (length files)) found in
+      (cases_lt r.k (length ways)) in
+      let one = at_one span ways 0 r.k fault ones low in
+      let number : 0 + r.k ≡ r.k = omega arith in
+      let place : ℕ = offset_in_file one.0 fault.place in
+      let moved : fault_in_files 0 ways fault.input fault ≡ fault_at r.k place fault.reason =
+      ap (λ (k : ℕ). fault_in_files 0 ways k fault) index ∙ one.1 ∙ ap (λ (n : ℕ). fault_at n place fault.reason) number in
       subst (AreRefused known fails IsFileRefusal files) (sym moved)
       (⊎_elim (λ memory. inl memory)
       (λ at. inr (inl (
         r.file,
-        ap (slice_get files) (at.input_is ∙ index) ∙ r.at,
+        ap (slice_get files) at.input_is ∙ r.at,
         refusal_moved (fails r.file) (known r.file) fault _ at.reason_is at.other r.of,
       )))
-      (at_is fault.input _ fault.reason))
+      (at_is r.k place fault.reason))
 
   good_sets : (span : Span) (files : List F) (all : List (List ℕ)) (held : List VersionSet) → Pairwise (IsGood known fails) files all
       → Pairwise HoldsSorted all held → Pairwise (GoodSet span) files held
   good_sets span = chained (IsGood known fails) HoldsSorted (GoodSet span) (λ file bytes set good holds. (bytes, good, holds))
 
+  slices_are : (span : Option Span) (files : List F) (inputs : List (InputFile I)) (given : List (ReadAs × InputRest))
+      (all : List (List ℕ)) (held : List VersionSet) → AreInputs span files inputs → Pairwise (IsGood known fails) files all
+      → Pairwise HoldsSorted all held → AllGive (InputFileCanGive gives) inputs given → Pairwise IsFileAs given (shard_slices span held)
+  slices_are None files inputs given all held are good holds g =
+      subst (λ (xs : List (ReadAs × InputRest)). Pairwise IsFileAs xs []) (sym (none_given inputs given are g)) tt
+  slices_are (Some span) files inputs given all held are good holds g =
+      slices_given span files inputs given held are (good_sets span files all held good holds) g
+
+  unread_within : (span : Option Span) (files : List F) (inputs : List (InputFile I)) (given : List (ReadAs × InputRest)) (fault : Fault)
+      → AreInputs span files inputs → AllGive (InputFileCanGive gives) inputs given → IsUnread 0 given fault → ⊥
+  unread_within None files inputs given fault are g u =
+      subst (λ (xs : List (ReadAs × InputRest)). IsUnread 0 xs fault) (none_given inputs given are g) u
+  unread_within (Some span) files inputs given fault are g u = none_unread span 0 files inputs given fault are g u
+
+  extent_refused : (span : Option Span) (files : List F) (inputs : List (InputFile I)) (given : List (ReadAs × InputRest))
+      (ways : List FileWay) (fault : Fault) → AreInputs span files inputs → AllGive (InputFileCanGive gives) inputs given
+      → length ways ≡ length files → AreOnes span ways → (index : ℕ) → index < length (sources 0 given)
+      → (rest_at (sources 0 given) index).refusal ≡ Some fault
+      → AreRefused known fails IsFileRefusal files (fault_in_files 0 ways fault.input fault)
+  extent_refused None files inputs given ways fault are g many ones index low e =
+      absurd (omega (arith, low, ap (λ (xs : List (ReadAs × InputRest)). length (sources 0 xs)) (none_given inputs given are g)))
+  extent_refused (Some span) files inputs given ways fault are g many ones index low e =
+      of_file span files ways fault many ones (refused_at span 0 index files inputs given fault are g low e)
+
   -- A refused job over the extents of files is a refused job for the span.
-  pub span_refused : (all_objects sliced : Span) (span : Option Span) → sliced ≡ unwrap_or span all_objects
-      → (files : List F) (inputs : List (SliceFile R)) (extents : List FileExtent)
-      → length extents ≡ length inputs → AreInputsOf known fails can span files inputs → (selection : Selection) (format : Format)
-      (change : Change) (fault : Fault)
-      → SomeInputsGive (SliceFileCanGive can) inputs
-      (λ given. RefusesSlice (record { span = sliced; selection = selection }) given format change fault)
-      → RefusesSpan known fails IsFileRefusal selection format (λ _. span) files change (Moved extents (length files) fault)
-  span_refused all_objects sliced None is files inputs extents many are selection format change fault (given, g, refused) =
-      let none : given ≡ [] = none_given inputs given are g in
-      let number : length given ≡ length extents = ap length none ∙ sym (many ∙ ap length are) in
-      let cut : CutShort (length given) change (spell format (selection_of selection (union_of []))) fault =
-      refused.cut [] (subst (λ (xs : List (Outside × InputRest)). Pairwise (GivesSlice sliced) xs []) (sym none) tt) in
-      let moved = cut_moved extents (length files) (length given) change (spell format (selection_of selection (union_of []))) fault number
-      cut in
-      let first = Moved extents (length files) fault in
-      let Long : Type 0 = IsLong known fails selection format (λ _. None) files in
-      record {
-        why = of_cut files change Long first (cut_why (length files) change _ first Long
-            (long_if_cut selection format (λ _. None) files change first (λ all held good holds few. moved)) moved);
-        cut = λ all held good holds few. moved;
-      }
-  span_refused all_objects sliced (Some span) is files inputs extents many are selection format change fault (given, g, refused_as) =
-      let refused : RefusesSlice (record { span = span; selection = selection }) given format change fault =
-      subst (λ (s : Span). RefusesSlice (record { span = s; selection = selection }) given format change fault) is refused_as in
-      let inputs_many : length inputs ≡ length given = pairwise_length (SliceFileCanGive can) inputs given
-      (as_pairs (SliceFileCanGive can) inputs
-      given g) in
-      let files_many : length files ≡ length inputs = pairwise_length (Input span) files inputs are in
-      let number : length given ≡ length extents = sym (many ∙ inputs_many) in
-      let first = Moved extents (length files) fault in
-      let Long : Type 0 = IsLong known fails selection format (λ _. Some span) files in
-      let short : IsCutIfGood known fails selection format (λ _. Some span) files change first =
-      (λ all held good holds few. cut_moved extents (length files) (length given) change _ fault number
-      (refused.cut (map (slice span) held)
-      (slices_given span files inputs given held are (good_sets span files all held good holds) g))) in
+  span_refused : {O : Type 0} (output : Ghosts O) (span : Option Span) (files : List F) (inputs : List (InputFile I))
+      (ways : List FileWay) → AreInputs span files inputs → length inputs ≡ run_count ways → length ways ≡ length files
+      → AreOnes span ways → (selection : Selection) (format : Format) (before after : O) (fault : Fault)
+      → SomeInputsGive (InputFileCanGive gives) inputs (λ given. RefusesJob output selection given format before after fault)
+      → RefusesSpan known fails IsFileRefusal selection format (λ _. span) files (change_of output before after)
+      (fault_in_files 0 ways fault.input fault)
+  span_refused output span files inputs ways are counted many ones selection format before after fault (given, g, refused) =
+      let change = change_of output before after in
+      let first = fault_in_files 0 ways fault.input fault in
+      let number : length given ≡ run_count ways =
+      sym (pairwise_length (InputFileCanGive gives) inputs given (as_pairs (InputFileCanGive gives) inputs given g)) ∙ counted in
+      let moved = cut_moved (length given) (length files) fault first
+      (λ memory. memory_found 0 ways fault.input fault memory)
+      (λ is. past_runs ways 0 fault.input fault (is ∙ number)
+      ∙ ap (λ (n : ℕ). fault_at n fault.place fault.reason) (let e : 0 + length ways ≡ length files = omega (arith, many) in e)) change in
+      let Long : Type 0 = IsLong known fails selection format (λ _. span) files in
+      let short : IsCutIfGood known fails selection format (λ _. span) files change first =
+      (λ all held good holds few. moved _ (refused.cut (shard_slices span held)
+      (slices_are span files inputs given all held are good holds g))) in
       record {
         why = elim refused.why [
-          | inl cut ↦ of_cut files change Long first (cut_why (length files) change _ first Long
-              (long_if_cut selection format (λ _. Some span) files change first short)
-              (cut_moved extents (length files) (length given) change _ fault number cut))
-          | inr f ↦ inl (of_file span files extents fault (many ∙ sym files_many)
-              (refused_at span 0 f.index files inputs given fault are g f.within f.refusal))
+          | inl (memory, same) ↦ inl (inl (memory_found 0 ways fault.input fault (ap (λ f. f.reason) memory)))
+          | inr (inl (unread, same)) ↦ absurd (unread_within span files inputs given fault are g unread)
+          | inr (inr (read, inl cut)) ↦ of_cut files change Long first (cut_why (length files) change _ first Long
+              (long_if_cut selection format (λ _. span) files change first short) (moved _ cut))
+          | inr (inr (read, inr f)) ↦ inl (extent_refused span files inputs given ways fault are g many ones f.index f.within f.refusal)
         ];
         cut = short;
       }
+
+-- ---- the inputs that are opened
+one_opened : {X Y : Type 0} (P : X → Y → Type 0) (xs : List X) (y : Y) → Pairwise P xs (y ∷ []) → (x : X) × (xs ≡ x ∷ []) × P x y
+one_opened P [] y h = absurd h
+one_opened P (x ∷ z ∷ xs) y h = absurd h.1
+one_opened P (x ∷ []) y h = (x, refl, h.0)
+
+none_opened : {X Y : Type 0} (P : X → Y → Type 0) (xs : List X) → Pairwise P xs [] → xs ≡ []
+none_opened P [] h = refl
+none_opened P (x ∷ xs) h = absurd h
+
+module _ {F R I : Type 0} (fails : F → Type 0) (bytes : F → Option (List ℕ)) (can : R → InputRest → Type 0)
+    (gives : I → InputRest → Type 0) where
+  abbrev Known : Bor F → Option (List ℕ)
+  Known file = bytes file.now
+
+  abbrev Fails : Bor F → Type 0
+  Fails file = fails file.now
+
+  abbrev Opened : List (Bor F) → List FileWay → List (InputFile I) → Type 0
+  Opened files ways inputs = OpensFiles fails bytes can gives (map opened_as_whole files) ways inputs
+
+  way_input : (span : Span) (file : Bor F) (way : FileWay) (added : List (InputFile I)) → IsWayWithin (Some span) (bytes file.now) way
+      → OpensFile fails bytes can gives (File file rule.Any) way added
+      → (input : InputFile I) × (added ≡ input ∷ []) × IsInputOf Known Fails gives span file input
+  way_input span file way added (extent, is, fit) opens =
+      let Opens = OpensRun gives (fails file.now) (bytes file.now) way.size way.read_as in
+      let one = one_opened Opens added extent.run (subst (Pairwise Opens added) fit.runs opens) in (
+        one.0,
+        one.1,
+        record {
+          extent = extent;
+          is = is;
+          how_is = one.2.read_as_is ∙ fit.read_as;
+          end_is = one.2.end_is;
+          reads = λ c gave. subst (λ (n : ℕ). RunCanGive (fails file.now) (bytes file.now) extent.run n c) fit.size
+              (one.2.gives_run c gave);
+        },
+      )
+
+  some_within : (span : Span) (files : List (Bor F)) (ways : List FileWay) (inputs : List (InputFile I))
+      → AreWaysWithin bytes (Some span) files ways → Opened files ways inputs
+      → Pairwise (IsInputOf Known Fails gives span) files inputs × (length inputs ≡ run_count ways) × AreOnes (Some span) ways
+  some_within span [] [] inputs w opens = (
+    subst (λ (xs : List (InputFile I)). Pairwise (IsInputOf Known Fails gives span) [] xs) (sym opens) tt,
+    ap length opens,
+    tt,
+  )
+  some_within span [] (way ∷ ways) inputs w opens = absurd w
+  some_within span (file ∷ files) [] inputs w opens = absurd w
+  some_within span (file ∷ files) (way ∷ ways) inputs w (added, others, is, one, more) =
+      let input = way_input span file way added w.0 one in
+      let rest = some_within span files ways others w.1 more in
+      let all : inputs ≡ input.0 ∷ others = is ∙ ap (λ (xs : List (InputFile I)). xs ++ others) input.1 in (
+        subst (λ (xs : List (InputFile I)). Pairwise (IsInputOf Known Fails gives span) (file ∷ files) xs) (sym all) (input.2, rest.0),
+        omega (arith, ap length all, rest.1, ap length w.0.2.runs),
+        ((w.0.0.run, w.0.2.runs), rest.2),
+      )
+
+  none_within : (files : List (Bor F)) (ways : List FileWay) (inputs : List (InputFile I))
+      → AreWaysWithin bytes None files ways → Opened files ways inputs
+      → (inputs ≡ []) × (length inputs ≡ run_count ways)
+  none_within [] [] inputs w opens = (opens, ap length opens)
+  none_within [] (way ∷ ways) inputs w opens = absurd w
+  none_within (file ∷ files) [] inputs w opens = absurd w
+  none_within (file ∷ files) (way ∷ ways) inputs w (added, others, is, one, more) =
+      let Opens = OpensRun gives (fails file.now) (bytes file.now) way.size way.read_as in
+      let none : added ≡ [] = none_opened Opens added (subst (Pairwise Opens added) w.0 one) in
+      let rest = none_within files ways others w.1 more in
+      let all : inputs ≡ others = is ∙ ap (λ (xs : List (InputFile I)). xs ++ others) none in (
+        all ∙ rest.0,
+        omega (arith, ap length all, rest.1, ap length w.0),
+      )
+
+  -- the inputs that were opened are the extents of the files
+  pub record AreExtents (span : Option Span) (files : List (Bor F)) (ways : List FileWay) (inputs : List (InputFile I)) : Type 0 where
+    pub are : AreInputs Known Fails gives span files inputs
+    counted : length inputs ≡ run_count ways
+    many : length ways ≡ length files
+    ones : AreOnes span ways
+
+  opened_within : (span : Option Span) (files : List (Bor F)) (ways : List FileWay) (inputs : List (InputFile I))
+      → AreWaysWithin bytes span files ways → Opened files ways inputs → AreExtents span files ways inputs
+  opened_within None files ways inputs w opens =
+      let all = none_within files ways inputs w opens in
+      record { are = all.0; counted = all.1; many = sym (pairwise_length _ files ways w); ones = tt }
+  opened_within (Some span) files ways inputs w opens =
+      let all = some_within span files ways inputs w opens in
+      record { are = all.0; counted = all.1; many = sym (pairwise_length _ files ways w); ones = all.2 }
 
 -- ---- refusals before anything is written
 module _ {F : Type 0} (known : F → Option (List ℕ)) (fails : F → Type 0) where
@@ -468,3 +615,39 @@ module _ {F : Type 0} (known : F → Option (List ℕ)) (fails : F → Type 0) w
   one_refused IsOf files number file fault at of =
       ⊎_elim (λ memory. inl memory) (λ is. inr (inl (file, ap (slice_get files) is.input_is ∙ at, of)))
       (at_is number fault.place fault.reason)
+
+-- ---- the job over files that are read in their ways for a span
+module _ {F R I : Type 0} (fails : F → Type 0) (bytes : F → Option (List ℕ)) (can : R → InputRest → Type 0)
+    (gives : I → InputRest → Type 0) (span : Option Span) (files : List (Bor F)) (ways : List FileWay)
+    (within : AreWaysWithin bytes span files ways) (opened : List (JobFile F R)) (are : opened ≡ map opened_as_whole files)
+    (job : FilesJob) where
+  pub extents : (inputs : List (InputFile I)) → OpensFiles fails bytes can gives opened ways inputs
+      → AreExtents fails bytes can gives span files ways inputs
+  extents inputs opens =
+      opened_within fails bytes can gives span files ways inputs within
+      (subst (λ (fs : List (JobFile F R)). OpensFiles fails bytes can gives fs ways inputs) are opens)
+
+  -- The job writes what the files have within the span.
+  pub written_within : (change : Change) (counts : Counts) → IsJobInWays fails bytes can gives opened ways job change counts
+      → (all : List (List ℕ)) (held : List VersionSet) → HaveBytes (Known fails bytes can gives) files all → Pairwise HoldsSorted all held
+      → IsSpanJob job.selection span held job.format change counts
+  written_within change counts is all held have holds =
+      span_run_is (Known fails bytes can gives) (Fails fails bytes can gives) gives span files is.inputs (extents is.inputs is.opens).are
+      job.selection job.format change counts is.done all held have holds
+
+  -- A refused job is one for the span.
+  pub refused_within : {O : Type 0} (output : Ghosts O) (before after : O) (fault : Fault)
+      → RefusesInWays fails bytes can gives opened ways job output before after fault
+      → RefusesSpan (Known fails bytes can gives) (Fails fails bytes can gives) IsFileRefusal job.selection job.format (λ _. span) files
+      (change_of output before after) fault
+  refused_within output before after fault (inl (memory, same)) =
+      subst (λ o. RefusesSpan (Known fails bytes can gives) (Fails fails bytes can gives) IsFileRefusal job.selection job.format
+      (λ _. span) files (change_of output before o) fault) (sym same)
+      (nothing_cut (Known fails bytes can gives) (Fails fails bytes can gives) job.selection job.format (λ _. span) files
+      (change_of output before before) fault (nothing_appended (output.holds before)) (inl memory))
+  refused_within output before after fault (inr r) =
+      let e = extents r.inputs r.opens in
+      subst (RefusesSpan (Known fails bytes can gives) (Fails fails bytes can gives) IsFileRefusal job.selection job.format (λ _. span)
+      files (change_of output before after)) (sym r.fault_is)
+      (span_refused (Known fails bytes can gives) (Fails fails bytes can gives) gives output span files r.inputs ways e.are e.counted
+      e.many e.ones job.selection job.format before after r.found r.refused)

@@ -4,9 +4,9 @@ use Rattle.std.proofs.Common.{length, take, drop, refl, sym, ap, ◌∙◌, subs
 use Rattle.std.proofs.lemmas.List.{append_cancel_right, drop-drop}
 use Rattle.osm_model.specs.Data.{VersionData}
 use Rattle.opl_line.specs.Delimiter.{is_line_end}
-use Rattle.osm_files.specs.Lines.{after_line, lines_from, bytes_between, BeginsLine}
+use Rattle.osm_files.specs.Lines.{after_line, lines_from, lines_of, bytes_between, BeginsLine}
 use Rattle.osm_files.specs.Opl.{OplFile}
-use Rattle.osm_files.proofs.JoinLaws.{Ended, SplitVersions, split_ended}
+use Rattle.osm_files.proofs.JoinLaws.{Ended, SplitVersions, lines_after, split_ended}
 use Rattle.osm_files.proofs.LineStarts.{start_lines}
 
 -- ---- bytes that are split before the beginning of a line
@@ -75,6 +75,21 @@ split_versions bytes rest s versions file =
       second = subst (λ (b : List ℕ). OplFile b []) (sym none) tt;
     })
     (λ ended. split_ended bytes s.front rest versions s.whole ended file)) s.ends
+
+-- the lines of split bytes are those of both parts
+pub lines_split : (bytes rest : List ℕ) (s : SplitLines bytes rest) → lines_of bytes ≡ lines_of s.front ++ lines_of rest
+lines_split bytes rest s =
+    ⊎_elim (λ none. ap lines_of (s.whole ∙ ap (λ f. f ++ rest) none) ∙ ap (λ f. lines_of f ++ lines_of rest) (sym none))
+    (⊎_elim (λ none.
+    ap lines_of (s.whole ∙ ap (λ r. s.front ++ r) none ∙ append-nil s.front)
+    ∙ sym (append-nil (lines_of s.front))
+    ∙ ap (λ r. lines_of s.front ++ lines_of r) (sym none))
+    (λ ended.
+    ap lines_of (s.whole ∙ ap (λ f. f ++ rest) ended.is ∙ append_assoc ended.text (ended.last ∷ []) rest)
+    ∙ lines_after ended.last ended.ends ended.text rest
+    ∙ ap (λ ls. ls ++ lines_of rest)
+    (sym (append-nil (lines_of ended.text)) ∙ sym (lines_after ended.last ended.ends ended.text [])
+    ∙ ap lines_of (sym ended.is)))) s.ends
 
 -- ---- the lines from one offset up to another
 abbrev nothing : List ℕ

@@ -29,11 +29,12 @@ use Rattle.osm_mirror.specs.declared.run.files_job.JobFile.TheVariants.{File, St
 use Rattle.osm_mirror.specs.declared.run.files_job.Order.{Order}
 use Rattle.osm_mirror.specs.declared.run.files_job.Order.TheVariants.{Sorted, Any}
 use Rattle.osm_mirror.specs.run.FilesRefusal.{verdict_as, verdict_by_end, IsVerdict, IsSoundFile, IsFaultIn, IsFaultOf, IsFaultAmong}
-use Rattle.osm_mirror.specs.run.FilesRefusal.{AreRefused}
+use Rattle.osm_mirror.specs.run.FilesRefusal.{AreRefused, DecidesJob}
 use Rattle.osm_mirror.specs.run.FilesRefusal.{IsFaultByRule, IsFaultAmongByRule, AreRefusedByRule, AreSettled, LeavesOpen, AreSound}
 use Rattle.osm_mirror.specs.run.FilesRefusal.{HasTaken, HasTakenUpTo, IsOutputFault, IsWriteRefusal, NothingStands, FailsLater, Stands}
 use Rattle.osm_mirror.specs.run.FilesRefusal.{IsGood, IsLong, IsCutIfGood, RefusesJobAs, RefusesFilesJob, RefusesAnyOrder}
 use Rattle.osm_mirror.specs.run.FilesRefusal.{IsFaultInWays, RefusesTurn}
+use Rattle.osm_mirror.specs.declared.run.input.ReadAs.TheVariants.{InOrder}
 use Rattle.osm_mirror.specs.run.FilesJob.{HoldsAs, FileFits, FilesFit, IsFilesJob, EndsByRule}
 use Rattle.osm_mirror.proofs.run_laws.FilesGoodLaws.{good_at, nothing_cut, good_not_refused}
 use Rattle.osm_mirror.proofs.run_laws.FilesJobLaws.{pairwise_length}
@@ -213,7 +214,7 @@ module _ {F R O : Type 0} (fails : F → Type 0) (bytes : F → Option (List ℕ
   ]
 
   -- a turn that leaves nothing open
-  pub closed_why : FilesFit bytes job.order files ways → (LeavesOpen ways fault → ⊥) → Why
+  closed_why : FilesFit bytes job.order files ways → (LeavesOpen ways fault → ⊥) → Why
   closed_why fits closed =
       decided (among closed)
       (λ is long. absurd (closed (inr (
@@ -222,13 +223,18 @@ module _ {F R O : Type 0} (fails : F → Type 0) (bytes : F → Option (List ℕ
       ))))
 
   -- a turn in which no file may be split
-  pub settled_why : AreSettled ways → Why
+  settled_why : AreSettled ways → Why
   settled_why settled =
       decided
       (λ f. ⊎_elim (λ found. (f.file, f.file_is, found))
       (λ unsorted. absurd (false≢true
       (sym (all_at (λ way. way.may_be_split ≡ false) ways fault.input f.way settled f.way_is) ∙ unsorted.0))) f.fault_is)
       (λ is long. long settled)
+
+  -- A turn that decides the job is refused as the job is.
+  pub decided_why : FilesFit bytes job.order files ways → DecidesJob ways fault → Why
+  decided_why fits (inl settled) = settled_why settled
+  decided_why fits (inr closed) = closed_why fits closed
 
 -- ---- why the job is refused
 -- the bytes of a file that is accepted and isn't accepted aren't known
@@ -376,11 +382,12 @@ module _ {F R O : Type 0} (fails : F → Type 0) (bytes : F → Option (List ℕ
 
     -- ---- an output that can't be cut back
     -- A file of which each unit was read before, and that is read in order, has no fault but that of a later read.
-    later : (file : JobFile F R) (way : FileWay) (fault : Fault) → AreSound bytes file → FileFits bytes Any file way → way.order ≡ Sorted
+    later : (file : JobFile F R) (way : FileWay) (fault : Fault) → AreSound bytes file → FileFits bytes Any file way
+        → way.read_as ≡ InOrder Sorted
         → IsFaultOf fails bytes can Any file fault → FailsLater fails bytes can file fault
     later (File f end) way fault sound fits sorted (inl failed) = inl failed
     later (File f end) way fault sound fits sorted (inr never) = inr (unknown_if (bytes f.now) end sound never)
-    later (Stream r end) way fault sound fits sorted found = absurd (two_orders way.order sorted fits.1)
+    later (Stream r end) way fault sound fits sorted found = absurd (let e : InOrder Sorted ≡ InOrder Any = sym sorted ∙ fits.1 in cc)
 
     no_file : (fault : Fault) (file : JobFile F R) → fault.input ≡ length files → slice_get files fault.input ≡ Some file → ⊥
     no_file fault file is at =

@@ -5,12 +5,9 @@ use Rattle.std.specs.Prelude.{◌++◌, length, map, sum_by, Option, Some, None,
 use Rattle.std.specs.List.{filter, flat_map}
 use Rattle.std.specs.Ordering.{is_lt}
 use Rattle.osm_model.specs.declared.object.Object.{Object}
-use Rattle.osm_model.specs.Data.{VersionData}
-use Rattle.osm_model.specs.Order.{object_of, object_order}
-use Rattle.osm_files.specs.Lines.{lines_from}
+use Rattle.osm_model.specs.Order.{object_order}
+use Rattle.osm_files.specs.Lines.{lines_from, first_named}
 use Rattle.osm_files.specs.O5.{reset_byte}
-use Rattle.osm_files.specs.Units.{InOpl, units}
-use Rattle.osm_files.specs.Verdict.{versions_of}
 use Rattle.osm_merge.specs.declared.span.Span.{Span}
 use Rattle.osm_merge.specs.Slice.{spans}
 use Rattle.osm_mirror.specs.declared.run.bounds.Found.{Found}
@@ -29,14 +26,9 @@ opl_size bytes = if is_opl bytes then length bytes else 0
 abbrev pub step_of : ℕ → List (List ℕ) → ℕ
 step_of count all = max (sum_by opl_size all / (16 * count)) 1
 
--- the object of the first of some versions, if there is one
-abbrev pub object_of_first : List VersionData → Option Object
-object_of_first [] = None
-object_of_first (v ∷ versions) = Some (object_of v)
-
--- the object of the first version in the lines that begin at an offset or after it
+-- the object that the first of the lines names that begin at an offset or after it and aren't skipped
 abbrev pub first_object : ℕ → List ℕ → Option Object
-first_object offset bytes = object_of_first (versions_of (units None InOpl 0 (lines_from offset bytes)).list)
+first_object offset bytes = first_named (lines_from offset bytes)
 
 -- an object that was found, with its weight; or nothing
 abbrev pub found_once : ℕ → Option Object → List Found

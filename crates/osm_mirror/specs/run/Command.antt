@@ -14,7 +14,8 @@ use Rattle.osm_files.specs.Spell.{spell}
 use Rattle.osm_files.specs.Sink.{CutShort}
 use Rattle.osm_merge.specs.declared.merge.Counts.{Counts}
 use Rattle.osm_merge.specs.Selected.{snapshot, visible}
-use Rattle.osm_mirror.specs.declared.run.input.ReadAs.TheVariants.{Any}
+use Rattle.osm_mirror.specs.declared.run.files_job.Order.TheVariants.{Any}
+use Rattle.osm_mirror.specs.declared.run.input.ReadAs.TheVariants.{InOrder}
 use Rattle.osm_mirror.specs.run.Job.{union_of, IsJobBy}
 use Rattle.osm_mirror.specs.run.Given.{GivesFile, IsUnread}
 
@@ -30,7 +31,7 @@ abbrev pub IsNotWritten : {O : Type 0} → Ghosts O → (VersionSet → VersionS
     → Type 0
 IsNotWritten output choice inputs format before after fault =
     ((fault ≡ memory_fault) × (after ≡ before))
-    ⊎ (IsUnread 0 (map (λ c. (Any, c)) inputs) fault × (after ≡ before))
+    ⊎ (IsUnread 0 (map (λ c. (InOrder Any, c)) inputs) fault × (after ≡ before))
     ⊎ ((held : List VersionSet) × Pairwise GivesFile inputs held
     × CutShort (length inputs) (change_of output before after) (spell format (choice (union_of held))) fault)
 

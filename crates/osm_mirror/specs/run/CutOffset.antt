@@ -1,7 +1,6 @@
 -- The offset at which an OPL file is cut at an object: an own rule of this project.
-use Rattle.std.specs.Prelude.{◌≡◌, ◌⊎◌, ℕ, ◌<◌, ◌^◌, Bool, true, false, List, [], ◌∷◌, length, take, drop, Option}
-use Rattle.std.specs.Prelude.{Some, IfSome}
-use Rattle.std.specs.Prelude.{if◌then◌else◌}
+use Rattle.std.specs.Prelude.{◌≡◌, ◌⊎◌, ℕ, zero, suc, ◌+◌, ◌-◌, ◌/◌, ◌<◌, min, nat_lt, Bool, true, false, List, []}
+use Rattle.std.specs.Prelude.{◌∷◌, length, take, drop, Option, Some, IfSome, if◌then◌else◌}
 use Rattle.std.specs.List.{filter}
 use Rattle.std.specs.List.Sorted.{IsSorted}
 use Rattle.osm_model.specs.declared.object.Object.{Object}
@@ -9,11 +8,32 @@ use Rattle.osm_model.specs.Data.{VersionData}
 use Rattle.osm_model.specs.Order.{key_cmp}
 use Rattle.osm_files.specs.declared.fault.Fault.{Fault}
 use Rattle.osm_files.specs.FileRuns.{IsReadFailure}
-use Rattle.osm_files.specs.Lines.{BeginsLine}
+use Rattle.osm_files.specs.Lines.{line_start_from, BeginsLine}
 use Rattle.osm_files.specs.Opl.{OplFile}
 use Rattle.osm_files.specs.Units.{FileStateData, InOpl, BeforeHeader, start_of}
 use Rattle.osm_merge.specs.Slice.{reaches, is_under}
+use Rattle.osm_mirror.specs.run.Bounds.{first_object}
+use Rattle.osm_mirror.specs.run.LinesFrom.{is_below}
 
+-- ---- the search
+-- The offset at which a search ends, after at most `most` steps. A step looks at the lines from the middle between two
+-- offsets on. If the object that they name first is below the bound, the search continues after the first byte of these
+-- lines, and otherwise before the middle. It ends at the start of the first line from the upper offset on.
+abbrev pub halved : ℕ → List ℕ → Object → ℕ → ℕ → ℕ
+halved zero bytes bound low high = line_start_from high bytes
+halved (suc most) bytes bound low high =
+    let middle = low + (high - low) / 2 in
+    if nat_lt low high then (
+    if is_below bound (first_object middle bytes)
+    then halved most bytes bound (min (line_start_from middle bytes + 1) high) high
+    else halved most bytes bound low middle)
+    else line_start_from high bytes
+
+-- The offset at which any bytes are cut at a bound. Each step leaves out at least one offset, so the steps are enough.
+abbrev pub cut_of : List ℕ → Object → ℕ
+cut_of bytes bound = halved (length bytes) bytes bound 0 (length bytes)
+
+-- ---- the cut of a sorted file
 -- is the object of the first of some versions below the bound?
 abbrev pub first_is_under : Object → List VersionData → Bool
 first_is_under bound [] = false
@@ -39,14 +59,14 @@ pub record BeginsLines (bytes : List ℕ) (offset : ℕ) : Type 0 where
   pub line : BeginsLine bytes offset
   pub start : start_of (drop offset bytes) ≡ InOpl
 
--- the offset is one at which a file is cut, if the file's bytes are known and aren't too many
+-- the offset is the one at which a file is cut, and separates the lines of a sorted file, if the file's bytes are known
 abbrev pub IsCutOf : Option (List ℕ) → Object → ℕ → Type 0
-IsCutOf bytes bound offset = IfSome bytes (λ all. length all < 2 ^ 62 → IsCutAt all bound offset)
+IsCutOf bytes bound offset = IfSome bytes (λ all. (offset ≡ cut_of all bound) × IsCutAt all bound offset)
 
 -- A file is refused because memory ran out or it can't be read; or it is no OPL file. `Fails` holds if reads of the
 -- file may fail.
 abbrev pub IsCutRefusal : Type 0 → Option (List ℕ) → Fault → Type 0
-IsCutRefusal Fails bytes fault = IfSome bytes (λ all. length all < 2 ^ 62 →
+IsCutRefusal Fails bytes fault = IfSome bytes (λ all.
     IsReadFailure Fails fault ⊎ ((versions : List VersionData) → OplFile all versions → ⊥))
 
 -- the state at the start of bytes that begin as an o5 file does, or of others

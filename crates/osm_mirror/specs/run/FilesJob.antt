@@ -31,14 +31,9 @@ use Rattle.osm_mirror.specs.declared.run.files_job.Order.{Order}
 use Rattle.osm_mirror.specs.declared.run.files_job.Order.TheVariants.{Sorted, Any}
 use Rattle.osm_mirror.specs.declared.run.input.InputFile.{InputFile}
 use Rattle.osm_mirror.specs.declared.run.input.ReadAs.{ReadAs}
-use Rattle.osm_mirror.specs.declared.run.input.ReadAs.TheVariants as read_as
+use Rattle.osm_mirror.specs.declared.run.input.ReadAs.TheVariants.{InOrder}
 use Rattle.osm_mirror.specs.run.Given.{GivesAs}
 use Rattle.osm_mirror.specs.run.Job.{union_of}
-
--- the way in which a file is read whose versions must have this order
-abbrev pub read_as_of : Order → ReadAs
-read_as_of Sorted = read_as.Sorted
-read_as_of Any = read_as.Any
 
 -- the bytes are a file that holds this set, and whose versions have the order that is required
 abbrev pub HoldsAs : Order → List ℕ → VersionSet → Type 0
@@ -50,7 +45,7 @@ module _ {F R : Type 0} (bytes : F → Option (List ℕ)) (can : R → InputRest
   -- such a file, which ends as its rule says.
   abbrev pub FileHolds : Order → JobFile F R → VersionSet → Type 0
   FileHolds order (File f end) held = IfSome (bytes f.now) (λ all. HoldsAs order all held)
-  FileHolds order (Stream r end) held = GivesOne (can r) (λ c. GivesAs (read_as_of order, by_rule end c) held)
+  FileHolds order (Stream r end) held = GivesOne (can r) (λ c. GivesAs (InOrder order, by_rule end c) held)
 
 -- A file of a job ends as its rule says, as far as the file's bytes are known. For a stream see `FileHolds`.
 abbrev pub EndsByRule : {F R : Type 0} → (F → Option (List ℕ)) → JobFile F R → Type 0
@@ -81,19 +76,19 @@ IsWhole way = way.runs.items ≡ whole_run ∷ []
 -- a file of this size is read as one input of this order, and may be split or not
 abbrev pub IsReadWhole : Order → ℕ → Bool → FileWay → Type 0
 IsReadWhole order size may_be_split way =
-    IsWhole way × (way.order ≡ order) × (way.size ≡ size) × (way.may_be_split ≡ may_be_split)
+    IsWhole way × (way.read_as ≡ InOrder order) × (way.size ≡ size) × (way.may_be_split ≡ may_be_split)
 
 -- a file is read as one input of the order that is required
 abbrev pub IsAsRequired : Order → FileWay → Type 0
-IsAsRequired order way = IsWhole way × (way.order ≡ order) × (way.may_be_split ≡ false)
+IsAsRequired order way = IsWhole way × (way.read_as ≡ InOrder order) × (way.may_be_split ≡ false)
 
 -- a file is read as one sorted file, and may be split if it isn't sorted
 abbrev pub IsTried : FileWay → Type 0
-IsTried way = IsWhole way × (way.order ≡ Sorted) × (way.may_be_split ≡ true)
+IsTried way = IsWhole way × (way.read_as ≡ InOrder Sorted) × (way.may_be_split ≡ true)
 
 -- a file is read as runs, which are sorted files if its bytes are known and are accepted in any order
 abbrev pub IsReadAsRuns : Option (List ℕ) → FileWay → Type 0
-IsReadAsRuns known way = (way.order ≡ Sorted) × (way.may_be_split ≡ false)
+IsReadAsRuns known way = (way.read_as ≡ InOrder Sorted) × (way.may_be_split ≡ false)
     × IfSome known (λ all. IsAccepted all → list.All (IsSortedRun all) way.runs.items)
 
 -- a way in which a file may be read that must have this order
@@ -117,18 +112,18 @@ module _ {F R : Type 0} (bytes : F → Option (List ℕ)) where
   FilesFit order files ways = Pairwise (FileFits order) files ways
 
 -- ---- the inputs of files
--- an input is read in this order, and gives a run of a file of `size` bytes, which may end after any byte
+-- an input is read in this way, and gives a run of a file of `size` bytes, which may end after any byte
 pub record OpensRun {I : Type 0} (gives : I → InputRest → Type 0) (Fails : Type 0) (known : Option (List ℕ)) (size : ℕ)
-    (order : Order) (input : InputFile I) (run : SortedRun) : Type 0 where
+    (how : ReadAs) (input : InputFile I) (run : SortedRun) : Type 0 where
   pub gives_run : (c : InputRest) → gives input.reader c → RunCanGive Fails known run size c
-  pub order_is : input.read_as ≡ read_as_of order
+  pub read_as_is : input.read_as ≡ how
   pub end_is : input.end ≡ rule.Any
 
--- an input is read in this order, and gives what a stream gives, which has to end as its rule says
-pub record OpensStream {R I : Type 0} (can : R → InputRest → Type 0) (gives : I → InputRest → Type 0) (order : Order)
+-- an input is read in this way, and gives what a stream gives, which has to end as its rule says
+pub record OpensStream {R I : Type 0} (can : R → InputRest → Type 0) (gives : I → InputRest → Type 0) (how : ReadAs)
     (stream : R) (end : EndRule) (input : InputFile I) : Type 0 where
   pub gives_stream : (c : InputRest) → gives input.reader c → can stream c
-  pub order_is : input.read_as ≡ read_as_of order
+  pub read_as_is : input.read_as ≡ how
   pub end_is : input.end ≡ end
 
 module _ {F R I : Type 0} (fails : F → Type 0) (bytes : F → Option (List ℕ)) (can : R → InputRest → Type 0)
@@ -136,9 +131,9 @@ module _ {F R I : Type 0} (fails : F → Type 0) (bytes : F → Option (List ℕ
   -- the inputs of a file that is read in this way
   abbrev pub OpensFile : JobFile F R → FileWay → List (InputFile I) → Type 0
   OpensFile (File f end) way inputs =
-      Pairwise (OpensRun gives (fails f.now) (bytes f.now) way.size way.order) inputs way.runs.items
+      Pairwise (OpensRun gives (fails f.now) (bytes f.now) way.size way.read_as) inputs way.runs.items
   OpensFile (Stream r end) way inputs =
-      (input : InputFile I) × (inputs ≡ input ∷ []) × OpensStream can gives way.order r end input
+      (input : InputFile I) × (inputs ≡ input ∷ []) × OpensStream can gives way.read_as r end input
 
   -- the inputs of files, in sequence
   abbrev pub OpensFiles : List (JobFile F R) → List FileWay → List (InputFile I) → Type 0

@@ -30,7 +30,8 @@ use Rattle.osm_mirror.specs.declared.run.files_job.JobFile.{JobFile}
 use Rattle.osm_mirror.specs.declared.run.files_job.JobFile.TheVariants.{File, Stream}
 use Rattle.osm_mirror.specs.declared.run.files_job.Order.{Order}
 use Rattle.osm_mirror.specs.declared.run.files_job.Order.TheVariants.{Sorted, Any}
-use Rattle.osm_mirror.specs.run.FilesJob.{HoldsAs, read_as_of, EndsByRule}
+use Rattle.osm_mirror.specs.declared.run.input.ReadAs.TheVariants.{InOrder}
+use Rattle.osm_mirror.specs.run.FilesJob.{HoldsAs, EndsByRule}
 use Rattle.osm_mirror.specs.run.Given.{GivesAs, source_of}
 use Rattle.osm_mirror.specs.run.Job.{union_of}
 
@@ -160,6 +161,10 @@ abbrev pub LeavesOpen : List FileWay → Fault → Type 0
 LeavesOpen ways fault = ((fault.reason ≡ Unsorted) × MayBeSplit ways fault.input)
     ⊎ ((fault.reason ≡ TooLong) × (fault.input ≡ length ways))
 
+-- a turn that is refused with this fault decides the job: no file may be split, or the fault leaves nothing open
+abbrev pub DecidesJob : List FileWay → Fault → Type 0
+DecidesJob ways fault = AreSettled ways ⊎ (LeavesOpen ways fault → ⊥)
+
 -- a regular file of a job is accepted, if its bytes are known
 abbrev pub AreSound : {F R : Type 0} → (F → Option (List ℕ)) → JobFile F R → Type 0
 AreSound bytes (File f end) = IsSoundFile (bytes f.now) Any end
@@ -169,7 +174,7 @@ module _ {F R : Type 0} (fails : F → Type 0) (bytes : F → Option (List ℕ))
   -- a stream gave something that is refused with this reason at this place
   abbrev pub IsFaultOfStream : Order → R → EndRule → Fault → Type 0
   IsFaultOfStream order r end fault = GivesOne (can r) (λ c. (input : ℕ)
-      × ((source_of input (read_as_of order, by_rule end c)).refusal ≡ Some (record fault { input = input })))
+      × ((source_of input (InOrder order, by_rule end c)).refusal ≡ Some (record fault { input = input })))
 
   -- The fault is one of this file, which must have this order and end as its rule says: its first one.
   abbrev pub IsFaultByRule : Order → JobFile F R → Fault → Type 0
@@ -213,7 +218,7 @@ module _ {F R : Type 0} (fails : F → Type 0) (bytes : F → Option (List ℕ))
   abbrev pub IsGood : Order → JobFile F R → VersionSet → Type 0
   IsGood order (File f end) held =
       (fails f.now → ⊥) × ((all : List ℕ) × (bytes f.now ≡ Some all) × HoldsAs order all held)
-  IsGood order (Stream r end) held = (c : InputRest) → can r c → GivesAs (read_as_of order, by_rule end c) held
+  IsGood order (Stream r end) held = (c : InputRest) → can r c → GivesAs (InOrder order, by_rule end c) held
 
   -- if each file is good, a front of the one spelling of the selection of the union of the files' sets was appended
   abbrev pub IsCutIfGood : FilesJob → List (JobFile F R) → Change → Fault → Type 0
@@ -278,7 +283,7 @@ module _ {F R : Type 0} (fails : F → Type 0) (bytes : F → Option (List ℕ))
     pub file_is : slice_get files fault.input ≡ Some file
     pub way_is : slice_get ways fault.input ≡ Some way
     pub fault_is : IsFaultInWay order file way fault
-    pub unwritten : (way.order ≡ Sorted) ⊎ Unwritten
+    pub unwritten : (way.read_as ≡ InOrder Sorted) ⊎ Unwritten
 
   -- why a turn was refused, as for the job; a file that may be split may be out of order
   pub record RefusesTurn {O : Type 0} (output : Ghosts O) (job : FilesJob) (files : List (JobFile F R))

@@ -15,12 +15,11 @@ use Rattle.osm_files.specs.Groups.{sorted_source, set_given}
 use Rattle.osm_files.specs.Position.{units_from, with_input}
 use Rattle.osm_files.specs.Stream.{end_refused}
 use Rattle.osm_files.specs.Verdict.{versions_of}
-use Rattle.osm_merge.specs.declared.span.Span.{Span}
 use Rattle.osm_merge.specs.ToCome as source
+use Rattle.osm_mirror.specs.declared.run.files_job.Order.TheVariants.{Sorted, Any}
 use Rattle.osm_mirror.specs.declared.run.input.InputFile.{InputFile}
 use Rattle.osm_mirror.specs.declared.run.input.ReadAs.{ReadAs}
-use Rattle.osm_mirror.specs.declared.run.input.ReadAs.TheVariants.{Sorted, Any, Within}
-use Rattle.osm_mirror.specs.declared.run.slice.SliceFile.{SliceFile}
+use Rattle.osm_mirror.specs.declared.run.input.ReadAs.TheVariants.{InOrder, Within}
 use Rattle.osm_mirror.specs.declared.run.source.InputSource.{InputSource}
 use Rattle.osm_mirror.specs.run.Merge.{GivesSorted}
 use Rattle.osm_mirror.specs.run.Job.{sources_by}
@@ -34,15 +33,15 @@ pub record GivesFile (input : InputRest) (held : VersionSet) : Type 0 where
 
 -- the input was read in its way, and gave this set
 abbrev pub GivesAs : ReadAs × InputRest → VersionSet → Type 0
-GivesAs (Sorted, c) = GivesSorted c
-GivesAs (Any, c) = GivesFile c
+GivesAs (InOrder Sorted, c) = GivesSorted c
+GivesAs (InOrder Any, c) = GivesFile c
 GivesAs (Within span outside, c) = HasSlice span (outside, c)
 
 -- The input is a file that can be read in its way, and gives this set. It differs from `GivesAs` for a file within a
 -- span: the whole file is sorted, also above the span.
 abbrev pub IsFileAs : ReadAs × InputRest → VersionSet → Type 0
-IsFileAs (Sorted, c) = GivesSorted c
-IsFileAs (Any, c) = GivesFile c
+IsFileAs (InOrder Sorted, c) = GivesSorted c
+IsFileAs (InOrder Any, c) = GivesFile c
 IsFileAs (Within span outside, c) = GivesSlice span (outside, c)
 
 -- the reader of this file can give these bytes, which have to end as its rule says, and the file is to be read in this
@@ -63,10 +62,6 @@ file_by end how reader = record { reader = reader; read_as = how; end = end }
 abbrev pub file_as : {R : Type 0} → ReadAs → R → InputFile R
 file_as = file_by rule.Any
 
--- a file of which a slice is read, as a file that is read within the span
-abbrev pub file_within : {R : Type 0} → Span → SliceFile R → InputFile R
-file_within span file = file_as (Within span file.outside) file.reader
-
 -- why the file of this input can't be read, whatever the order of its versions; none, if it can
 abbrev pub refusal : ℕ → InputRest → Option Fault
 refusal number c = (with_input number (units_from None 0 c)).refusal
@@ -84,8 +79,8 @@ held_source number c = let units = with_input number (units_from None 0 c) in
 -- the source of an input: the key groups of a sorted file, or those within a span; or the set of a file of any order,
 -- which was read to its end
 abbrev pub source_of : ℕ → ReadAs × InputRest → source.VersionsToCome
-source_of number (Sorted, c) = sorted_source number c
-source_of number (Any, c) = held_source number c
+source_of number (InOrder Sorted, c) = sorted_source number c
+source_of number (InOrder Any, c) = held_source number c
 source_of number (Within span outside, c) = given_slice span number (outside, c)
 
 -- the sources of the inputs, which are numbered from `number` on
@@ -94,8 +89,8 @@ sources = sources_by source_of
 
 -- an input of any order gives a file; for any other there is no condition
 abbrev pub IsRead : ReadAs × InputRest → Type 0
-IsRead (Sorted, c) = Unit {0}
-IsRead (Any, c) = (held : VersionSet) × GivesFile c held
+IsRead (InOrder Sorted, c) = Unit {0}
+IsRead (InOrder Any, c) = (held : VersionSet) × GivesFile c held
 IsRead (Within span outside, c) = Unit {0}
 
 -- A source of this file, which is the input of this number, was opened. For all that the source can give, the file
@@ -113,8 +108,8 @@ AreOpened can number (file ∷ files) (s ∷ opened) = IsOpened can number file 
 
 -- an input of any order can't be read for this reason
 abbrev pub CannotBeRead : ℕ → ReadAs × InputRest → Fault → Type 0
-CannotBeRead number (Sorted, c) fault = ⊥
-CannotBeRead number (Any, c) fault = refusal number c ≡ Some fault
+CannotBeRead number (InOrder Sorted, c) fault = ⊥
+CannotBeRead number (InOrder Any, c) fault = refusal number c ≡ Some fault
 CannotBeRead number (Within span outside, c) fault = ⊥
 
 -- one of the inputs of any order can't be read for this reason; the inputs are numbered from `number` on

@@ -1,6 +1,6 @@
 -- Why a job for a shard is refused: an own rule of this project.
 use Rattle.std.specs.Prelude.{◌≡◌, ◌⊎◌, ℕ, ◌<◌, ◌≤◌, ◌^◌, List, length, sum_by, Option, Some}
-use Rattle.std.specs.Prelude.{None, IfSome, slice_get, false}
+use Rattle.std.specs.Prelude.{IfSome, slice_get, false}
 use Rattle.std.specs.List as list
 use Rattle.osm_model.specs.Pairwise.{Pairwise}
 use Rattle.osm_model.specs.VersionSet.{VersionSet}
@@ -11,18 +11,16 @@ use Rattle.osm_files.specs.declared.reason.Reason.TheVariants.{ReadFault, TooLon
 use Rattle.osm_files.specs.declared.end_rule.EndRule.{EndRule}
 use Rattle.osm_files.specs.Change.{change_of}
 use Rattle.osm_files.specs.EndRule.{lacks_its_end, rule_of_file}
-use Rattle.osm_files.specs.Fault.{memory_fault, fault_at}
+use Rattle.osm_files.specs.Fault.{memory_fault}
 use Rattle.osm_files.specs.FileRuns.{IsReadFailure}
 use Rattle.osm_files.specs.Held.{HoldsSorted}
 use Rattle.osm_files.specs.Output.{Change}
 use Rattle.osm_files.specs.Sink.{CutShort}
-use Rattle.osm_files.specs.SortedRun.{offset_in_file}
 use Rattle.osm_files.specs.Spell.{spell}
 use Rattle.osm_merge.specs.declared.span.Span.{Span}
 use Rattle.osm_merge.specs.declared.selection.Selection.{Selection}
 use Rattle.osm_merge.specs.Selected.{selection_of}
 use Rattle.osm_mirror.specs.declared.run.files_job.Order.TheVariants.{Sorted}
-use Rattle.osm_mirror.specs.declared.run.shard_extent.FileExtent.{FileExtent}
 use Rattle.osm_mirror.specs.declared.run.shard_job.ShardJob.{ShardJob}
 use Rattle.osm_mirror.specs.run.Bounds.{opl_size, shard_span}
 use Rattle.osm_mirror.specs.run.FilesRefusal.{IsFaultOfFile, IsOutputFault}
@@ -39,11 +37,6 @@ IsFileRefusal Fails known fault = IsReadFailure Fails fault
 -- the first fault of a sorted file that has to end as the rule says
 abbrev pub IsFaultByRule : EndRule → Type 0 → Option (List ℕ) → Fault → Type 0
 IsFaultByRule end Fails known fault = IsFaultOfFile Fails known Sorted end fault
-
--- the fault of an input as the fault of its file, if these are the extents that were read of the files
-abbrev pub fault_in_extent : Fault → ℕ → Option FileExtent → Fault
-fault_in_extent fault count None = fault_at count fault.place fault.reason
-fault_in_extent fault count (Some extent) = fault_at fault.input (offset_in_file extent.run fault.place) fault.reason
 
 module _ {F : Type 0} (known : F → Option (List ℕ)) (fails : F → Type 0) where
   -- the fault has the number of one of these files, and `IsOf` is true for it and this file

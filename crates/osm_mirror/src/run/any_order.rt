@@ -8,6 +8,7 @@ ghost use Rattle.osm_merge.specs.Selected.{selection_of, visible, at, between};
 ghost use Rattle.osm_merge.specs.Merged.{Grows};
 ghost use Rattle.osm_mirror.specs.run.Command.{IsWritten, IsNotWritten, apply_result};
 
+use crate::run::files_job::Order;
 use crate::run::input::{ReadAs, files_as};
 use crate::run::run_selected;
 use osm_files::{Fault, Format, Input, Output};
@@ -168,7 +169,7 @@ fn run_any_order<R: Input + Drop, W: Output>(
     ensures kept { Grows (change_of W.Output out.old out.new) }
     ensures good { OnOk result (IsGoodThroughout (change_of W.Output out.old out.new)) }
 {
-    let files = files_as(alloc, ReadAs::Any, inputs)?;
+    let files = files_as(alloc, ReadAs::InOrder(Order::Any), inputs)?;
     let counts = run_selected(alloc, selection, files, format, out, &mut NoProgress)?;
     Ok(Counts {
         compared: 0,

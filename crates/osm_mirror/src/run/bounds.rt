@@ -1,13 +1,10 @@
 //! The bounds of shards. Objects are looked up at regular offsets of all OPL files, and the bounds cut them into shares
 //! of about equal size.
 ghost use Rattle.std.specs.Prelude.{◌≡◌, ◌++◌, ◌*◌, ◌<◌, ◌≤◌, ◌^◌, nat_le, true, length, List, ℕ, IfOk, OnOk, IfErr};
-ghost use Rattle.std.specs.Prelude.{IfSome, if◌then◌else◌};
+ghost use Rattle.std.specs.Prelude.{IfSome, sum_by, if◌then◌else◌};
 ghost use Rattle.std.specs.List.Sorted.{IsPermutation};
-ghost use Rattle.osm_model.specs.Pairwise.{Pairwise};
-ghost use Rattle.osm_model.specs.VersionSet.{VersionSet};
-ghost use Rattle.osm_files.specs.Held.{HoldsSorted};
-ghost use Rattle.osm_mirror.specs.run.Bounds.{is_opl, step_of, found_in_all, found_once, probe_count, total_weight};
-ghost use Rattle.osm_mirror.specs.run.Bounds.{bound_of};
+ghost use Rattle.osm_mirror.specs.run.Bounds.{is_opl, opl_size, step_of, found_in_all, found_once, probe_count};
+ghost use Rattle.osm_mirror.specs.run.Bounds.{total_weight, bound_of};
 ghost use Rattle.osm_mirror.specs.run.Probes.{HaveBytes, IsTotal, FindsInAll, FindsIn, FindsBy, Ascend, is_above};
 ghost use Rattle.osm_mirror.specs.run.ShardRefusal.{AreRefused, IsFileRefusal};
 
@@ -38,9 +35,10 @@ pub(crate) fn find_objects<F: ReadAt>(
     requires some { 0 < count }
     requires few { count ≤ 9999 }
     ensures ascend { IfOk result (λ found. Ascend found.items) }
-    ensures found { IfOk result (λ found. (all : List (List ℕ)) (held : List VersionSet)
-        → HaveBytes (λ file. F.bytes file.now) files.now all → Pairwise HoldsSorted all held
+    ensures found { IfOk result (λ found. (all : List (List ℕ)) → HaveBytes (λ file. F.bytes file.now) files.now all
         → IsPermutation (found_in_all (step_of count all) all) found.items × (total_weight found.items < 2 ^ 62)) }
+    ensures short { IfOk result (λ _. (all : List (List ℕ)) → HaveBytes (λ file. F.bytes file.now) files.now all
+        → sum_by opl_size all < 2 ^ 62) }
     ensures refused { IfErr result (AreRefused (λ file. F.bytes file.now) (λ file. F.fails file.now) IsFileRefusal
         files.now) }
 {

@@ -17,7 +17,8 @@ use std::alloc::Global;
 /// It reads a long stretch of comments at most twice. So it does a long line, unless the line has another form and
 /// comments precede it.
 ///
-/// For a file that isn't sorted, it is some offset at which a line begins, or the file's length.
+/// A file that isn't sorted is cut at the offset at which the same search ends: a line begins there, or the file ends.
+/// So the bytes determine the offset, and all jobs over a file cut it alike.
 ///
 /// # Errors
 ///

@@ -8,6 +8,7 @@ ghost use Rattle.osm_mirror.specs.run.FilesRefusal.{AreSettled, MayBeSplit, Leav
 ghost use Rattle.osm_mirror.specs.run.FilesJob.{IsReadWhole, FileFits, FilesFit};
 
 use crate::run::files_job::{FilesJob, JobFile, Order};
+use crate::run::input::ReadAs;
 use crate::run::probe::descends;
 use osm_files::{Fault, Input, LENGTH_LIMIT, ReadAt, Reason, SortedRun, find_runs};
 use std::alloc::Global;
@@ -15,11 +16,11 @@ use std::alloc::Global;
 /// The greatest number of runs besides the first one of each file. Each run has a buffer.
 const MOST_FURTHER_RUNS: usize = 128;
 
-/// How a job reads a file: as one input, or as several sorted runs of it.
+/// How a job reads a file: as one input, as several sorted runs of it, or a shard's extent of it.
 #[derive(Drop)]
 pub(crate) struct FileWay {
-    /// The order that the versions of each input must have.
-    pub(crate) order: Order,
+    /// The way in which the versions of each input are read.
+    pub(crate) read_as: ReadAs,
     /// The runs of the file that are the inputs, in the file's order. A stream is one input.
     pub(crate) runs: Vec<SortedRun>,
     /// The size of the file, in bytes; 0 for a stream.
@@ -37,7 +38,7 @@ impl FileWay {
         let mut runs = Vec::new(alloc);
         runs.push(SortedRun::whole())?;
         Ok(FileWay {
-            order,
+            read_as: ReadAs::InOrder(order),
             runs,
             size,
             may_be_split,
@@ -227,7 +228,7 @@ fn split_file<'f, F: ReadAt, R: Input>(
     let size = short_size(*file)?;
     match find_runs(alloc, *file, size, most)? {
         Some(runs) => Ok(FileWay {
-            order: Order::Sorted,
+            read_as: ReadAs::InOrder(Order::Sorted),
             runs,
             size,
             may_be_split: false,

@@ -7,15 +7,14 @@ ghost use Rattle.osm_files.specs.CutBack.{HasLength, IsCutBack};
 ghost use Rattle.osm_files.specs.Fault.{memory_fault, write_fault};
 ghost use Rattle.osm_merge.specs.Merged.{Grows};
 ghost use Rattle.osm_mirror.specs.run.FilesRefusal.{RefusesFilesJob, RefusesAnyOrder, AreSound, FindsFirst};
-ghost use Rattle.osm_mirror.specs.run.FilesRefusal.{NothingStands};
-ghost use Rattle.osm_mirror.specs.run.FilesJob.{read_as_of, opened_of, IsFilesJob, EndsByRule, FilesFit};
+ghost use Rattle.osm_mirror.specs.run.FilesRefusal.{NothingStands, DecidesJob};
+ghost use Rattle.osm_mirror.specs.run.FilesJob.{opened_of, IsFilesJob, EndsByRule, FilesFit};
 ghost use Rattle.osm_mirror.specs.declared.run.files_job.Order.TheVariants as order;
 
 use crate::run::file_end::refuse_cut;
 use crate::run::file_way::{FileWay, file_to_try, first_ways, leaves_open, split_ways};
 use crate::run::files_turn::run_turn;
 use crate::run::first_fault::{first_fault_of, refuse_faulty};
-use crate::run::input::ReadAs;
 use osm_files::{Broken, CutBackOutput, EndRule, Fault, Format, Input, ReadAt, Reason};
 use osm_merge::{Counts, Progress, Selection};
 use std::alloc::Global;
@@ -40,16 +39,6 @@ pub enum Order {
 }
 
 impl Order {
-    /// The way in which a file of this order is read as one input.
-    pub(crate) fn read_as(self) -> ReadAs
-        ensures { result ≡ read_as_of self }
-    {
-        match self {
-            Order::Sorted => ReadAs::Sorted,
-            Order::Any => ReadAs::Any,
-        }
-    }
-
     /// Whether the versions may have any order.
     pub(crate) fn is_any(self) -> bool
         ensures { IsTrue result ↔ (self ≡ order.Any) }
@@ -256,12 +245,9 @@ fn try_turn<'f, F: ReadAt, R: Input + Drop, W: CutBackOutput, P: Progress>(
         files.entry.items out.old out.new) }
     ensures good { IfOk result (λ made. IfSome made (λ _. W.failed out.new ≡ false)) }
 {
-    let number = files.as_slice().len();
-    let start = length_of(out, number)?;
-    match run_turn(alloc, job, files, ways, out, progress) {
+    match run_or_undo(alloc, job, files, ways, out, progress)? {
         Ok(counts) => Ok(Some(counts)),
         Err(fault) => {
-            cut_back(out, number, start)?;
             if leaves_open(ways, fault) {
                 return Ok(None);
             }
@@ -288,14 +274,41 @@ fn last_turn<'f, F: ReadAt, R: Input + Drop, W: CutBackOutput, P: Progress>(
         files.entry.items out.old out.new) }
     ensures good { OnOk result (W.failed out.new ≡ false) }
 {
-    let number = files.as_slice().len();
     let settled = split_ways(alloc, files.as_slice(), ways, None)?;
+    run_or_undo(alloc, job, files, settled.as_slice(), out, progress)?
+}
+
+/// Runs a turn. If it is refused, the output is cut back. `Ok` has the result of the turn.
+///
+/// # Errors
+///
+/// `WriteFault` if the length of the output can't be read, or if the output can't be cut back.
+fn run_or_undo<'f, F: ReadAt, R: Input + Drop, W: CutBackOutput, P: Progress>(
+    alloc: Global,
+    job: FilesJob,
+    files: Vec<JobFile<'f, F, R>>,
+    ways: &[FileWay],
+    out: &mut W,
+    progress: &mut P,
+) -> Result<Result<Counts, Fault>, Fault>
+    requires any { job.order ≡ order.Any }
+    requires fit { FilesFit F.bytes order.Any files.items ways.now }
+    ensures written { IfOk result (λ turn. IfOk turn (IsFilesJob F.bytes R.can_give job files.entry.items
+        (change_of W.Output out.old out.new))) }
+    ensures undone { IfOk result (λ turn. OnErr turn (NothingStands W.Output out.old out.new)) }
+    ensures decided { IfOk result (λ turn. IfErr turn (λ fault. DecidesJob ways.now fault
+        → RefusesAnyOrder F.fails F.bytes R.can_give W.Output true job files.entry.items out.old out.new fault)) }
+    ensures refused { IfErr result (RefusesAnyOrder F.fails F.bytes R.can_give W.Output true job
+        files.entry.items out.old out.new) }
+    ensures good { IfOk result (λ turn. OnOk turn (W.failed out.new ≡ false)) }
+{
+    let number = files.as_slice().len();
     let start = length_of(out, number)?;
-    match run_turn(alloc, job, files, settled.as_slice(), out, progress) {
-        Ok(counts) => Ok(counts),
+    match run_turn(alloc, job, files, ways, out, progress) {
+        Ok(counts) => Ok(Ok(counts)),
         Err(fault) => {
             cut_back(out, number, start)?;
-            Err(fault)
+            Ok(Err(fault))
         }
     }
 }

@@ -7,6 +7,7 @@ ghost use Rattle.osm_files.specs.Output.{IsGoodThroughout};
 ghost use Rattle.osm_merge.specs.Merged.{Grows};
 ghost use Rattle.osm_mirror.specs.run.FilesRefusal.{RefusesTurn};
 ghost use Rattle.osm_mirror.specs.run.FilesJob.{IsFilesJob, FilesFit, OpensFiles, AddsFile, fault_in_files};
+ghost use Rattle.osm_mirror.specs.run.WaysJob.{IsJobInWays, RefusesInWays};
 
 use crate::laws::sorted_runs_hold_the_file;
 use crate::run::file_way::FileWay;
@@ -35,6 +36,28 @@ pub(crate) fn run_turn<'f, F: ReadAt, R: Input + Drop, W: Output, P: Progress>(
     ensures good { OnOk result (IsGoodThroughout (change_of W.Output out.old out.new)) }
 {
     sorted_runs_hold_the_file();
+    run_ways(alloc, job, files, ways, out, progress)
+}
+
+/// Reads each file in its way, which may be any, and appends what `job` selects of what was read. Fault numbers are
+/// those of files.
+pub(crate) fn run_ways<'f, F: ReadAt, R: Input + Drop, W: Output, P: Progress>(
+    alloc: Global,
+    job: FilesJob,
+    files: Vec<JobFile<'f, F, R>>,
+    ways: &[FileWay],
+    out: &mut W,
+    progress: &mut P,
+) -> Result<Counts, Fault>
+    requires same { length files.items ≡ length ways.now }
+    ensures written { IfOk result (IsJobInWays F.fails F.bytes R.can_give
+        (FileInputCanGive F.fails F.bytes R.can_give) files.entry.items ways.now job
+        (change_of W.Output out.old out.new)) }
+    ensures refused { IfErr result (RefusesInWays F.fails F.bytes R.can_give
+        (FileInputCanGive F.fails F.bytes R.can_give) files.entry.items ways.now job W.Output out.old out.new) }
+    ensures kept { Grows (change_of W.Output out.old out.new) }
+    ensures good { OnOk result (IsGoodThroughout (change_of W.Output out.old out.new)) }
+{
     let inputs = open_files(alloc, files, ways)?;
     progress.begin();
     match run_selected(alloc, job.selection, inputs, job.format, out, progress) {
@@ -88,11 +111,9 @@ fn push_stream<'f, F: ReadAt, R: Input + Drop>(
         (JobFile.Stream stream end) way.now inputs.old.items inputs.new.items) }
     ensures memory { IfErr result (λ fault. fault ≡ memory_fault) }
 {
-    let reader = FileInput::Stream(stream);
-    let read_as = way.order.read_as();
     Ok(inputs.push(InputFile {
-        reader,
-        read_as,
+        reader: FileInput::Stream(stream),
+        read_as: way.read_as,
         end,
     })?)
 }
@@ -110,11 +131,9 @@ fn push_runs<'f, F: ReadAt, R: Input + Drop>(
 {
     'runs: for index in 0..way.runs.len() {
         let run = way.runs[index];
-        let reader = FileInput::Extent(FramedExtent::of_run(file, way.size, run));
-        let read_as = way.order.read_as();
         inputs.push(InputFile {
-            reader,
-            read_as,
+            reader: FileInput::Extent(FramedExtent::of_run(file, way.size, run)),
+            read_as: way.read_as,
             end: EndRule::Any,
         })?;
     }

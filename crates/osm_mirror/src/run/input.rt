@@ -3,6 +3,7 @@ ghost use Rattle.std.specs.Prelude.{◌≡◌, map, IfOk, IfErr};
 ghost use Rattle.osm_files.specs.Fault.{memory_fault};
 ghost use Rattle.osm_mirror.specs.run.Given.{file_as};
 
+use crate::run::files_job::Order;
 use osm_files::{EndRule, Fault};
 use osm_merge::{Outside, Span};
 use std::alloc::Global;
@@ -10,10 +11,9 @@ use std::alloc::Global;
 /// The way in which the versions of a file are read.
 #[derive(Clone, Copy, Debug, PartialEq, Eq)]
 pub enum ReadAs {
-    /// Ascending by key. The file is read as it is needed, one key at a time.
-    Sorted,
-    /// In any order. The file is read to its end before anything is written.
-    Any,
+    /// All versions, in this order. A sorted file is read as it is needed, one key at a time. A file of any order is
+    /// read to its end before anything is written.
+    InOrder(Order),
     /// Ascending by key, and only the versions of the objects within a span. The file is read as it is needed, one key
     /// at a time. In a whole file a version outside of the span is dropped. In a part of a file, which is to have only
     /// the versions within the span, it is refused.

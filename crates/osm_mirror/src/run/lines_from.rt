@@ -6,7 +6,7 @@ ghost use Rattle.std.specs.Prelude.{◌≡◌, ◌≤◌, None, IfOk, IfErr};
 ghost use Rattle.osm_mirror.specs.run.CutOffset.{IsCutRefusal};
 ghost use Rattle.osm_mirror.specs.run.LinesFrom.{AreLinesOf};
 
-use osm_files::{Fault, ReadAt, first_key, line_start};
+use osm_files::{Fault, ReadAt, first_object, line_start};
 use osm_model::Object;
 use std::alloc::Global;
 
@@ -17,7 +17,7 @@ pub(crate) struct LinesFrom {
     pub(crate) offset: u64,
     /// The offset at which the first of these lines begins, or the file's length if there is none.
     pub(crate) start: u64,
-    /// The object of the first version in these lines; `None` if they hold no version.
+    /// The object that the first of these lines names that isn't skipped; `None` if all are skipped.
     pub(crate) object: Option<Object>,
 }
 
@@ -63,14 +63,11 @@ pub(crate) fn lines_before<F: ReadAt>(
             object: later.object,
         });
     }
-    let object = match first_key(alloc, file, start, later.start)? {
-        Some(key) => Some(key.object),
-        None => later.object,
-    };
+    let first = first_object(alloc, file, start, later.start)?;
     Ok(LinesFrom {
         offset,
         start,
-        object,
+        object: first.or(later.object),
     })
 }
 

@@ -6,6 +6,7 @@ ghost use Rattle.osm_merge.specs.Giving.{SomeInputsGive};
 ghost use Rattle.osm_merge.specs.Merged.{Grows};
 ghost use Rattle.osm_mirror.specs.run.Merge.{IsMerged, Refuses};
 
+use crate::run::files_job::Order;
 use crate::run::input::{ReadAs, files_as};
 use crate::run::run_selected;
 use osm_files::{Fault, Format, Input, Output};
@@ -37,7 +38,7 @@ pub fn run_merge<R: Input + Drop, W: Output>(
     ensures kept { Grows (change_of W.Output out.old out.new) }
     ensures good { OnOk result (IsGoodThroughout (change_of W.Output out.old out.new)) }
 {
-    let files = files_as(alloc, ReadAs::Sorted, inputs)?;
+    let files = files_as(alloc, ReadAs::InOrder(Order::Sorted), inputs)?;
     run_selected(alloc, Selection::All, files, format, out, &mut NoProgress)
 }
 

@@ -1,7 +1,5 @@
-//! A look at a few versions of an OPL file, which shows that some files aren't sorted before they are read.
-//!
-//! Why: a file that is several sorted files in sequence isn't written up to the second one, and then once more.
-//! Assumes: nothing. The result decides only in which way the file is read.
+//! A look at a few versions of an OPL file. It shows that some files aren't sorted before they are read, and decides
+//! only in which way a file is read.
 use osm_files::{FileSource, ReadAt, SliceIn, Source};
 use osm_model::Object;
 use std::alloc::Global;

@@ -1,9 +1,10 @@
 //! The extent of a file that a job for a shard reads.
-ghost use Rattle.std.specs.Prelude.{◌≡◌, ◌<◌, true, false, length, IfOk, IfErr, IfSome};
+ghost use Rattle.std.specs.Prelude.{◌≡◌, true, false, length, IfOk, IfErr, IfSome};
 ghost use Rattle.osm_files.specs.FileRuns.{IsReadFailure};
 ghost use Rattle.osm_merge.specs.Slice.{is_ascending};
 ghost use Rattle.osm_mirror.specs.run.CutOffset.{BeginsAs, IsCutRefusal};
 ghost use Rattle.osm_mirror.specs.run.ShardExtent.{IsOplSize, BeginsAtOf, EndsAtOf, IsExtentOf};
+ghost use Rattle.osm_mirror.specs.run.ShardExtent as spec;
 ghost use Rattle.osm_mirror.specs.run.ShardRefusal.{IsFileRefusal};
 
 use crate::run::cut::{begins_as_o5, cut_offset};
@@ -89,6 +90,8 @@ pub(crate) fn extent_of<F: ReadAt>(alloc: Global, file: &F, span: Span) -> Resul
 
 /// Whether a file of `size` bytes is read whole. An o5 file is, and a small one.
 fn is_read_whole<F: ReadAt>(file: &F, size: u64) -> Result<bool, Fault>
+    requires size { IfSome (F.bytes file.now) (λ all. size ≡ length all) }
+    ensures whole { IfOk result (λ is_whole. IfSome (F.bytes file.now) (λ all. is_whole ≡ spec.is_read_whole all)) }
     ensures lines { IfOk result (λ is_whole. is_whole ≡ false → BeginsAs (F.bytes file.now) 0 false) }
     ensures refused { IfErr result (IsReadFailure (F.fails file.now)) }
 {

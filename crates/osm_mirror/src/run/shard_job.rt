@@ -1,41 +1,37 @@
 //! The job for one of several shards of an output. From the same files all jobs find the same shards, each by itself.
-ghost use Rattle.std.specs.Prelude.{◌≡◌, ◌⊎◌, ◌+◌, ◌<◌, ◌≤◌, ◌^◌, true, List, ℕ, length, slice_get, Some, IfOk, IfErr};
-ghost use Rattle.std.specs.Prelude.{OnOk, IfSome};
+ghost use Rattle.std.specs.Prelude.{◌≡◌, ◌⊎◌, ◌<◌, ◌≤◌, ◌^◌, true, List, ℕ, length, Some, IfOk, IfErr};
+ghost use Rattle.std.specs.Prelude.{OnOk, IfSome, map, sum_by};
 ghost use Rattle.osm_files.specs.Change.{change_of};
 ghost use Rattle.osm_files.specs.Fault.{memory_fault};
-ghost use Rattle.osm_files.specs.FileInput.{FramedCanGive};
 ghost use Rattle.osm_files.specs.Held.{HoldsSorted};
 ghost use Rattle.osm_files.specs.Output.{IsGoodThroughout};
 ghost use Rattle.osm_model.specs.Pairwise.{Pairwise};
 ghost use Rattle.osm_model.specs.VersionSet.{VersionSet};
 ghost use Rattle.osm_merge.specs.Merged.{Grows};
 ghost use Rattle.osm_merge.specs.Slice.{is_ascending, is_ascending_between};
-ghost use Rattle.osm_mirror.specs.run.Bounds.{shard_span, total_weight};
+ghost use Rattle.osm_mirror.specs.run.Bounds.{opl_size, shard_span, total_weight};
 ghost use Rattle.osm_mirror.specs.run.Probes.{HaveBytes, Ascend};
-ghost use Rattle.osm_mirror.specs.run.ShardExtent.{IsExtentOf, IsInputOf, AreInputsOf};
+ghost use Rattle.osm_mirror.specs.run.ShardExtent.{IsWayWithin, AreWaysWithin, opened_as_whole};
 ghost use Rattle.osm_mirror.specs.run.ShardRefusal.{IsFileRefusal, AreRefused};
 ghost use Rattle.osm_mirror.specs.run.ShardRefusal.{RefusesSpan};
-ghost use Rattle.osm_mirror.specs.run.ShardRefusal.{RefusesShardJob, IsFaultByRule, EndByRule, fault_in_extent};
+ghost use Rattle.osm_mirror.specs.run.ShardRefusal.{RefusesShardJob, IsFaultByRule, EndByRule};
 ghost use Rattle.osm_mirror.specs.run.ShardJob.{IsShardJob, IsSpanJob};
 ghost use Rattle.osm_mirror.specs.run.ShardSpan.{bound_after, span_of_number};
+ghost use Rattle.osm_mirror.specs.run.ShardsRead.{HasReadShard, HasReadSpan};
 
 use crate::run::bounds::{Found, bound, find_objects};
 use crate::run::file_end::refuse_cut_file;
-use crate::run::files_job::Order;
+use crate::run::file_way::FileWay;
+use crate::run::files_job::{FilesJob, JobFile, Order};
+use crate::run::files_turn::run_ways;
 use crate::run::first_fault::first_fault_of;
+use crate::run::input::ReadAs;
 use crate::run::shard::Shard;
-use crate::run::shard_extent::{FileExtent, extent_of};
-use crate::run::slice::{Slice, SliceFile, run_slice};
+use crate::run::shard_extent::extent_of;
 use osm_files::{EndRule, Fault, Format, FramedExtent, Output, ReadAt};
 use osm_merge::{Counts, Progress, Selection, Span};
 use osm_model::Object;
 use std::alloc::Global;
-
-/// The span of all objects.
-const ALL_OBJECTS: Span = Span {
-    from: None,
-    to: None,
-};
 
 /// What the job for a shard writes.
 #[derive(Clone, Copy, Debug, PartialEq, Eq)]
@@ -57,6 +53,9 @@ pub struct ShardJob {
 /// a file of at most 4 KB, is read up to the upper bound. If there are fewer spans than shards, the last shards have no
 /// versions. The job looks at the end of each file first. So the jobs of all shards are refused if a file is cut.
 ///
+/// The job for one shard may succeed over a file that isn't sorted. If the jobs for all shards do, each file is sorted:
+/// [`shards_read_sorted_files`](crate::laws::shards_read_sorted_files).
+///
 /// # Errors
 ///
 /// The files are numbered from 0, and the number of the output is the number of files. If a file that is read can't be
@@ -75,6 +74,8 @@ pub fn run_shard<F: ReadAt, W: Output, P: Progress>(
     ensures written { IfOk result (λ counts. (all : List (List ℕ)) (held : List VersionSet)
         → HaveBytes (λ file. F.bytes file.now) files.now all → Pairwise HoldsSorted all held
         → IsShardJob job all held (change_of W.Output out.old out.new) counts) }
+    ensures read { OnOk result ((all : List (List ℕ)) → HaveBytes (λ file. F.bytes file.now) files.now all
+        → HasReadShard job.shard.number job.shard.count all) }
     ensures refused { IfErr result (RefusesShardJob (λ file. F.bytes file.now) (λ file. F.fails file.now) W.Output job
         files.now out.old out.new) }
     ensures ended { OnOk result (EndByRule (λ file. F.bytes file.now) (λ file. F.fails file.now) job.end files.now) }
@@ -112,9 +113,10 @@ fn span_of_shard<F: ReadAt>(
     files: &[&F],
     shard: Shard,
 ) -> Result<Option<Span>, Fault>
-    ensures span { IfOk result (λ span. (all : List (List ℕ)) (held : List VersionSet)
-        → HaveBytes (λ file. F.bytes file.now) files.now all → Pairwise HoldsSorted all held
+    ensures span { IfOk result (λ span. (all : List (List ℕ)) → HaveBytes (λ file. F.bytes file.now) files.now all
         → span ≡ shard_span shard.number shard.count all) }
+    ensures short { IfOk result (λ _. (all : List (List ℕ)) → HaveBytes (λ file. F.bytes file.now) files.now all
+        → sum_by opl_size all < 2 ^ 62) }
     ensures ascends { IfOk result (λ span. IfSome span (λ span. is_ascending span ≡ true)) }
     ensures refused { IfErr result (AreRefused (λ file. F.bytes file.now) (λ file. F.fails file.now) IsFileRefusal
         files.now) }
@@ -178,84 +180,84 @@ fn write_span<F: ReadAt, W: Output, P: Progress>(
     ensures written { IfOk result (λ counts. (all : List (List ℕ)) (held : List VersionSet)
         → HaveBytes (λ file. F.bytes file.now) files.now all → Pairwise HoldsSorted all held
         → IsSpanJob job.selection span held job.format (change_of W.Output out.old out.new) counts) }
+    ensures read { IfOk result (λ _. (all : List (List ℕ)) → HaveBytes (λ file. F.bytes file.now) files.now all
+        → HasReadSpan span all) }
     ensures refused { IfErr result (RefusesSpan (λ file. F.bytes file.now) (λ file. F.fails file.now) IsFileRefusal
         job.selection job.format (λ _. span) files.now (change_of W.Output out.old out.new)) }
     ensures kept { Grows (change_of W.Output out.old out.new) }
     ensures good { OnOk result (IsGoodThroughout (change_of W.Output out.old out.new)) }
 {
-    let mut extents = Vec::new(alloc);
-    let inputs = open_extents(alloc, span, files, &mut extents)?;
-    let slice = Slice {
-        span: span.unwrap_or(ALL_OBJECTS),
+    let ways = ways_within(alloc, span, files)?;
+    let opened = opened_whole(alloc, files)?;
+    let whole = FilesJob {
         selection: job.selection,
+        order: Order::Sorted,
+        tries_largest: false,
+        format: job.format,
     };
-    progress.begin();
-    match run_slice(alloc, slice, inputs, job.format, out, progress) {
-        Ok(counts) => Ok(counts),
-        Err(fault) => Err(fault_of_file(extents.as_slice(), files.len(), fault)),
-    }
+    run_ways(alloc, whole, opened, ways.as_slice(), out, progress)
 }
 
-/// The extents of the files within `span`, as inputs. The extents are appended to `extents`, too. Without a span there
-/// are none.
-fn open_extents<'f, F: ReadAt>(
+/// The files as those of a job, which may end after any byte: their ends were looked at before.
+fn opened_whole<'f, F: ReadAt>(
+    alloc: Global,
+    files: &[&'f F],
+) -> Result<Vec<JobFile<'f, F, FramedExtent<'f, F>>>, Fault>
+    ensures opened { IfOk result (λ opened. opened.items ≡ map opened_as_whole files.now) }
+    ensures memory { IfErr result (λ fault. fault ≡ memory_fault) }
+{
+    let mut opened = Vec::new(alloc);
+    'files: for file in files {
+        opened.push(JobFile::File(*file, EndRule::Any))?;
+    }
+    Ok(opened)
+}
+
+/// The ways in which the files are read for the objects within `span`.
+fn ways_within<F: ReadAt>(
     alloc: Global,
     span: Option<Span>,
-    files: &[&'f F],
-    extents: &mut Vec<FileExtent>,
-) -> Result<Vec<SliceFile<FramedExtent<'f, F>>>, Fault>
+    files: &[&F],
+) -> Result<Vec<FileWay>, Fault>
     requires ascends { IfSome span (λ span. is_ascending span ≡ true) }
-    ensures inputs { IfOk result (λ inputs. AreInputsOf (λ file. F.bytes file.now) (λ file. F.fails file.now)
-        (FramedCanGive F.fails F.bytes) span files.now inputs.items) }
-    ensures extents { IfOk result (λ inputs.
-        length extents.new.items ≡ length extents.old.items + length inputs.items) }
+    ensures ways { IfOk result (λ ways. AreWaysWithin F.bytes span files.now ways.items) }
     ensures refused { IfErr result (AreRefused (λ file. F.bytes file.now) (λ file. F.fails file.now) IsFileRefusal
         files.now) }
 {
-    let mut inputs = Vec::new(alloc);
-    let Some(span) = span else {
-        return Ok(inputs);
-    };
+    let mut ways = Vec::new(alloc);
     'files: for (input, file) in files.iter().enumerate() {
-        let extent = match extent_of(alloc, *file, span) {
-            Ok(extent) => extent,
+        match way_within(alloc, *file, span) {
+            Ok(way) => ways.push(way)?,
             Err(fault) => return Err(fault.of_input(input)),
-        };
-        extents.push(extent)?;
-        inputs.push(open_extent(*file, span, extent))?;
+        }
     }
-    Ok(inputs)
+    Ok(ways)
 }
 
-/// An extent of a file within `span` as an input.
-fn open_extent<'f, F: ReadAt>(
-    file: &'f F,
-    span: Span,
-    extent: FileExtent,
-) -> SliceFile<FramedExtent<'f, F>>
-    requires extent { IsExtentOf span (F.bytes file.now) extent }
-    ensures { IsInputOf (λ file. F.bytes file.now) (λ file. F.fails file.now) (FramedCanGive F.fails F.bytes) span
-        file.entry result }
+/// The way in which a file is read for the objects within `span`: its extent is the one input. Without a span there is
+/// no input.
+fn way_within<F: ReadAt>(alloc: Global, file: &F, span: Option<Span>) -> Result<FileWay, Fault>
+    requires ascends { IfSome span (λ span. is_ascending span ≡ true) }
+    ensures way { IfOk result (IsWayWithin span (F.bytes file.now)) }
+    ensures refused { IfErr result (IsFileRefusal (F.fails file.now) (F.bytes file.now)) }
 {
-    SliceFile {
-        reader: FramedExtent::of_run(file, extent.size, extent.run),
-        outside: extent.outside,
-    }
-}
-
-/// The fault of an input as the fault of its file, whose place is the offset in the file. A fault of the output gets
-/// the number of files.
-fn fault_of_file(extents: &[FileExtent], files: usize, fault: Fault) -> Fault
-    ensures { result ≡ fault_in_extent fault files (slice_get extents.now fault.input) }
-{
-    match extents.get(fault.input) {
-        Some(extent) => Fault::at(
-            fault.input,
-            extent.run.offset_in_file(fault.place),
-            fault.reason,
-        ),
-        None => Fault::at(files, fault.place, fault.reason),
-    }
+    let mut runs = Vec::new(alloc);
+    let Some(span) = span else {
+        return Ok(FileWay {
+            read_as: ReadAs::InOrder(Order::Sorted),
+            runs,
+            size: 0,
+            may_be_split: false,
+        });
+    };
+    let extent = extent_of(alloc, file, span)?;
+    runs.push(extent.run)?;
+    Ok(FileWay {
+        read_as: ReadAs::Within(span, extent.outside),
+        runs,
+        size: extent.size,
+        may_be_split: false,
+    })
 }
 
 /// The first fault of the file that a fault names, if it isn't a sorted file that ends as `end` requires; otherwise the

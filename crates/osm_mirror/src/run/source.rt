@@ -5,8 +5,10 @@ ghost use Rattle.osm_files.specs.Fault.{memory_fault};
 ghost use Rattle.osm_merge.specs.Giving.{SomeInputsGive};
 ghost use Rattle.osm_files.specs.Input.{GivesOne};
 ghost use Rattle.osm_mirror.specs.run.Given.{InputFileCanGive, file_by, IsOpened, AreOpened, IsUnopened};
+ghost use Rattle.osm_mirror.specs.declared.run.files_job.Order.TheVariants as order;
 ghost use Rattle.osm_mirror.specs.declared.run.input.ReadAs.TheVariants as read_as;
 
+use crate::run::files_job::Order;
 use crate::run::input::{InputFile, ReadAs};
 use osm_files::{Fault, FileSource, HistorySource, Input, Source, load_ended};
 use osm_merge::{Outside, Span, Within};
@@ -109,8 +111,8 @@ fn open_input<R: Input + Drop>(
         IsUnopened input (given ∷ []) fault)) }
 {
     match file.read_as {
-        ReadAs::Sorted => stream(alloc, input, count, file),
-        ReadAs::Any => load(alloc, input, file),
+        ReadAs::InOrder(Order::Sorted) => stream(alloc, input, count, file),
+        ReadAs::InOrder(Order::Any) => load(alloc, input, file),
         ReadAs::Within(span, outside) => slice(alloc, input, count, span, outside, file),
     }
 }
@@ -123,7 +125,7 @@ fn stream<R: Input + Drop>(
     file: InputFile<R>,
 ) -> Result<InputSource<R>, Fault>
     ensures opened { IfOk result (λ source.
-        IsOpened R.can_give input (file_by file.end read_as.Sorted file.reader) source) }
+        IsOpened R.can_give input (file_by file.end (read_as.InOrder order.Sorted) file.reader) source) }
     ensures memory { IfErr result (λ fault. fault ≡ memory_fault) }
 {
     let source = FileSource::with_peers(alloc, input, file.end, file.reader, count)?;
@@ -155,11 +157,14 @@ fn load<R: Input + Drop>(
     file: InputFile<R>,
 ) -> Result<InputSource<R>, Fault>
     ensures opened { IfOk result (λ source.
-        IsOpened R.can_give input (file_by file.end read_as.Any file.reader) source) }
+        IsOpened R.can_give input (file_by file.end (read_as.InOrder order.Any) file.reader) source) }
     ensures refused { IfErr result (λ fault.
-        GivesOne (InputFileCanGive R.can_give (file_by file.end read_as.Any file.reader)) (λ given.
+        GivesOne (InputFileCanGive R.can_give (file_by file.end (read_as.InOrder order.Any) file.reader)) (λ given.
         IsUnopened input (given ∷ []) fault)) }
 {
     let loaded = load_ended(alloc, input, file.end, file.reader)?;
     Ok(InputSource::Held(HistorySource::new(loaded.history)))
 }
+
+#[cfg(test)]
+mod tests;

@@ -2,7 +2,7 @@ use Rattle.std.proofs.Common.{◌≡◌, ◌-◌, ◌≤◌, ◌<◌, List, ℕ,
 use Rattle.std.proofs.lemmas.List.{take-append-le}
 use Rattle.osm_files.specs.LineKey.{IsKeyOfFront}
 use Rattle.osm_files.specs.Lines.{AreSkipped}
-use Rattle.osm_files.proofs.FirstLaws.{front_keyed, front_skipped, front_comment, front_line_read}
+use Rattle.osm_files.proofs.FirstLaws.{front_named, front_skipped, front_comment, front_line_read}
 use Rattle.osm_files.proofs.lines.read_front.Goals as goal
 
 pub returns-in-Some-clause-front : goal.returns-in-Some-clause-front
@@ -10,7 +10,7 @@ returns-in-Some-clause-front g c =
     let read : List ℕ = take c.in-Ok.count c.read_at.new.buffer in
     let same = take-append-le c.in-Ok.count c.read_at.new.buffer (drop c.min-most.result c.args.buffer.now) (search (rules, arith)) in
     let few : length read ≤ c.args.end - c.args.offset = search (rules, arith) in
-    front_keyed (g.F.ReadAt.fails c.args.file.now) c.args.offset c.args.end read few (g.F.ReadAt.bytes c.args.file.now) c.in-Some.key
+    front_named (g.F.ReadAt.fails c.args.file.now) c.args.offset c.args.end read few (g.F.ReadAt.bytes c.args.file.now) c.in-Some.key
     c.in-Ok.ensures.bytes (subst (λ bytes. IsKeyOfFront bytes c.in-Some.key) same c.in-Some.ensures)
 
 pub returns-then-size-gt0-clause-front : goal.returns-then-size-gt0-clause-front

@@ -1,6 +1,6 @@
 //! The line about a job.
 use super::{JobSummary, JobTally};
-use crate::run::{Command, ReadAs, files_as, run_selected};
+use crate::run::{Command, Order, ReadAs, files_as, run_selected};
 use osm_files::{Fault, Format, SliceIn, VecOut};
 use osm_merge::Selection;
 use std::alloc::Global;
@@ -12,7 +12,7 @@ const FILE: &[u8] = b"n1 v1 dV x1 y1\nn1 v1 dV x2 y1\nw1 v1 dV Nn1\nw1 v1 dV Nn1
 fn line_of(alloc: Global) -> Result<String, Fault> {
     let mut inputs = Vec::new(alloc);
     inputs.push(SliceIn::new(FILE))?;
-    let files = files_as(alloc, ReadAs::Sorted, inputs)?;
+    let files = files_as(alloc, ReadAs::InOrder(Order::Sorted), inputs)?;
     let mut out = VecOut::new(alloc);
     let mut tally = JobTally::new();
     let counts = run_selected(

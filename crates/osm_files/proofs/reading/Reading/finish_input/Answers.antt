@@ -1,16 +1,12 @@
-use Rattle.std.proofs.Common.{◌≡◌, ◌∙◌, ◌+◌, sym, ap, true, length}
-use Rattle.osm_files.specs.EndRule.{lacks_end}
-use Rattle.osm_files.specs.Fault.{fault_at}
-use Rattle.osm_files.specs.declared.reason.Reason.TheVariants.{NoEnd}
+use Rattle.std.proofs.Common.{ap}
+use Rattle.std.proofs.lemmas.Result.{err_from_is_err_and}
 use Rattle.osm_files.proofs.ReaderLaws.{cut_refused}
 use Rattle.osm_files.proofs.reading.Reading.finish_input.Goals as goal
 
-pub returns-then-lacks_end-clause-step : goal.returns-then-lacks_end-clause-step
-returns-then-lacks_end-clause-step g c =
+pub returns-in_err-check_end-clause-step : goal.returns-in_err-check_end-clause-step
+returns-in_err-check_end-clause-step g c =
     let p = c.args.self.now in
-    let is = c.self.view_is in
-    let lacks : lacks_end p.end ≡ true = ap (λ v. lacks_end v.end) (sym is) ∙ sym c.lacks_end.ensures ∙ c.if-lacks_end.true in
-    let at = c.refuse.ensures.fault ∙ ap (λ n. fault_at p.input n NoEnd) (ap (λ n. c.self.inside.offset + n) c.len.ensures
-    ∙ (λ i. (is i).offset + length ((is i).held))) in
-    cut_refused g.R.Input.can_give p c.refuse.new.self c.refuse.result c.requires.good (ap (λ v. v.failed) c.refuse.ensures.failed)
-    c.requires.nothing c.requires.bound c.requires.ended lacks at (g.R.Input.one p.rest) (g.R.Input.possible p.rest)
+    let e = err_from_is_err_and c.from_residual.result c.from_residual.ensures.1 in
+    rw (e.1, e.2) (cut_refused g.R.Input.can_give p c.check_end.new.self c.in_err-check_end.field-0.0 c.requires.good
+    (ap (λ v. v.failed) c.in_err-check_end.ensures.failed) c.requires.nothing c.requires.bound c.requires.ended
+    c.in_err-check_end.ensures.lacks c.in_err-check_end.ensures.fault (g.R.Input.one p.rest) (g.R.Input.possible p.rest))

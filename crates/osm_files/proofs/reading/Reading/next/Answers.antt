@@ -85,6 +85,16 @@ returns-in-Ok-None-clause-step g c =
     (gone_none g.R.Input.can_give c.args.self.now m q c.units.invariant.on found same.0 same.1 same.2 same.3)
     (sym (ap (λ v. v.failed) c.self.view_is) ∙ c.if-self.false) c.finish_input.ensures.step
 
+pub returns-in-Ok-None-2-clause-step : goal.returns-in-Ok-None-2-clause-step
+returns-in-Ok-None-2-clause-step g c =
+    let m = c.units.self in
+    let q = c.read_held.new.self in
+    let found = none_found m q c.in-Ok-None.field-0 c.in-Ok-None.field-0-is c.in-Ok-None.ensures.found in
+    let same = none_same m q found in
+    steps_from g.R.Input.can_give c.args.self.now q c.refuse_unknown.new.self (Err c.refuse_unknown.result)
+    (gone_none g.R.Input.can_give c.args.self.now m q c.units.invariant.on found same.0 same.1 same.2 same.3)
+    (sym (ap (λ v. v.failed) c.self.view_is) ∙ c.if-self.false) c.refuse_unknown.ensures.step
+
 pub units-preserved : goal.units-preserved
 units-preserved g c =
     let m = c.units.self in
@@ -93,7 +103,7 @@ units-preserved g c =
     let short =
     gone_shorter g.R.Input.can_give c.args.self.now m c.read_held.new.self r c.units.invariant.on c.read_held.ensures.bound found
     c.shorten_comment.ensures in
-    let read = c.in_ok-fill-in-Ok-None-2.ensures in
+    let read = c.in_ok-fill-in-Ok-None-3.ensures in
     let size : c.len-searched.result ≡ length r.held = search rules in
     record {
       on = gone_read g.R.Input.can_give c.args.self.now r c.fill.new.self short.on read.on c.fill.ensures.input;
@@ -101,8 +111,8 @@ units-preserved g c =
       none = rw size (none_still r c.fill.new.self short.known short.none read.on.stage read.kept);
     }
 
-pub returns-in_err-fill-in-Ok-None-2-clause-step : goal.returns-in_err-fill-in-Ok-None-2-clause-step
-returns-in_err-fill-in-Ok-None-2-clause-step g c =
+pub returns-in_err-fill-in-Ok-None-3-clause-step : goal.returns-in_err-fill-in-Ok-None-3-clause-step
+returns-in_err-fill-in-Ok-None-3-clause-step g c =
     let m = c.units.self in
     let r = c.shorten_comment.new.self in
     let found = none_found m c.read_held.new.self c.in-Ok-None.field-0 c.in-Ok-None.field-0-is c.in-Ok-None.ensures.found in
@@ -110,11 +120,11 @@ returns-in_err-fill-in-Ok-None-2-clause-step g c =
     gone_shorter g.R.Input.can_give c.args.self.now m c.read_held.new.self r c.units.invariant.on c.read_held.ensures.bound found
     c.shorten_comment.ensures in
     let e = err_from_is_err_and c.from_residual.result c.from_residual.ensures.1 in
-    let fault = c.in_err-fill-in-Ok-None-2.field-0.0 in
+    let fault = c.in_err-fill-in-Ok-None-3.field-0.0 in
     let fine : c.args.self.now.failed ≡ false = sym (ap (λ v. v.failed) c.self.view_is) ∙ c.if-self.false in
     rw (e.1, e.2) (steps_from g.R.Input.can_give c.args.self.now r c.fill.new.self (Err fault) short.on fine
-    (fill_refused g.R.Input.can_give r c.fill.new.self fault (short.on.failed ∙ fine) c.in_err-fill-in-Ok-None-2.ensures.refused
-    short.none short.bound c.in_err-fill-in-Ok-None-2.ensures.stops))
+    (fill_refused g.R.Input.can_give r c.fill.new.self fault (short.on.failed ∙ fine) c.in_err-fill-in-Ok-None-3.ensures.refused
+    short.none short.bound c.in_err-fill-in-Ok-None-3.ensures.stops))
 
 pub returns-in-Err-clause-step : goal.returns-in-Err-clause-step
 returns-in-Err-clause-step g c =

@@ -14,14 +14,14 @@ returns-clause-ascend g c =
     (answers_always _ _ _ (λ f a r q k. search rules))
 
 pub returns-clause-found : goal.returns-clause-found
-returns-clause-found g c all held have holds =
+returns-clause-found g c all have =
     let found : List Found = c.in_ok-found.found.items in
     let sorted : List Found = c.sort_unstable_by.new.self.items in
     let total = c.in_ok-total_size.ensures.total all have in
     let step : c.max-step.result ≡ step_of c.args.count all =
     c.max-step.ensures ∙ ap (λ t. max (t / (16 * c.args.count)) 1) total in
     let is : found ≡ found_in_all (step_of c.args.count all) all =
-    c.in_ok-found.ensures.found all held have holds ∙ ap (λ s. found_in_all s all) step in
+    c.in_ok-found.ensures.found all have ∙ ap (λ s. found_in_all s all) step in
     let moved : IsPermutation (found_in_all (step_of c.args.count all) all) sorted =
     subst (λ (xs : List Found). IsPermutation xs sorted) is c.sort_unstable_by.ensures.permutation in
     let same = sum_by-IsPermutation (λ f. f.weight) (found_in_all (step_of c.args.count all) all) sorted moved in
@@ -29,3 +29,8 @@ returns-clause-found g c all held have holds =
       moved,
       omega (arith, same, most, total, c.in_ok-total_size.ensures.short),
     )
+
+pub returns-clause-short : goal.returns-clause-short
+returns-clause-short g c all have =
+    let total = c.in_ok-total_size.ensures.total all have in
+    omega (arith, total, c.in_ok-total_size.ensures.short)

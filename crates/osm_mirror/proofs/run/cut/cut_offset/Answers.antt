@@ -1,7 +1,6 @@
-use Rattle.std.proofs.Common.{◌≡◌, ◌+◌, ◌-◌, ◌/◌, ◌⊎◌, ⊎_elim, ◌∙◌, ◌≤◌, IfSome, length, inl, inr, sym, subst, refl, arith}
-use Rattle.std.proofs.lemmas.Bool.{cases_lt}
+use Rattle.std.proofs.Common.{◌≡◌, ◌+◌, ◌∙◌, IfSome, length, sym, subst, refl, arith}
 use Rattle.osm_mirror.specs.run.CutOffset.{BeginsAs}
-use Rattle.osm_mirror.proofs.run_laws.CutLaws.{halving_first, halving_low, halving_high, halved, begins_of, o5_refusal}
+use Rattle.osm_mirror.proofs.run_laws.CutLaws.{halving_first, halving_low, halving_high, halving_ends, begins_of, o5_refusal}
 use Rattle.osm_mirror.proofs.run_laws.LinesFromLaws.{lines_at_end}
 use Rattle.osm_mirror.proofs.run.cut.cut_offset.Goals as goal
 
@@ -17,31 +16,28 @@ halves-init g c =
 
 pub halves-preserved-then-is_below : goal.halves-preserved-then-is_below
 halves-preserved-then-is_below g c =
-    let middle = c.halves.low + (c.halves.high.offset - c.halves.low) / 2 in
     let lines = c.in_ok-lines.lines in
     let start = c.clamp-low.result in
     let is = c.clamp-low.ensures in
-    let early : (start ≡ middle) ⊎ (start ≤ lines.start) =
-    ⊎_elim (λ before. inl (omega (arith, is, before))) (λ late. inr (omega (arith, is, late))) (cases_lt lines.start middle) in (
-      halving_low c.args.bound (g.F.ReadAt.bytes c.args.file.now) c.halves.low middle c.halves.high.offset start (start + 1) lines
-          c.halves.invariant.0 c.in_ok-lines.ensures.lines c.in_ok-lines.ensures.offset (sym c.is_below.ensures ∙ c.if-is_below.true)
-          (omega (arith, is)) (omega (arith, is)) early refl,
+    let at = c.in_ok-lines.ensures.offset in (
+      halving_low c.args.bound (g.F.ReadAt.bytes c.args.file.now) c.halves.low c.halves.high.offset start (start + 1) lines
+          c.halves.invariant.0 (omega arith) c.in_ok-lines.ensures.lines at
+          (sym c.is_below.ensures ∙ c.if-is_below.true) (λ late. omega (arith, is, late, at)) refl
+          (omega (arith, is, at)) (omega (arith, is)),
       c.halves.invariant.1,
     )
 
 pub halves-preserved : goal.halves-preserved
-halves-preserved g c =
-    let middle = c.halves.low + (c.halves.high.offset - c.halves.low) / 2 in
-    let lines = c.in_ok-lines.lines in (
-      halving_high c.args.bound (g.F.ReadAt.bytes c.args.file.now) c.halves.low middle c.halves.high.offset lines
-          c.halves.invariant.0 c.in_ok-lines.ensures.lines c.in_ok-lines.ensures.offset (sym c.is_below.ensures ∙ c.if-is_below.false)
-          (omega arith) (omega arith),
-      c.in_ok-lines.ensures.lines,
-    )
+halves-preserved g c = (
+  halving_high c.args.bound (g.F.ReadAt.bytes c.args.file.now) c.halves.low c.halves.high.offset c.in_ok-lines.lines
+      c.halves.invariant.0 (omega arith) c.in_ok-lines.ensures.lines c.in_ok-lines.ensures.offset
+      (sym c.is_below.ensures ∙ c.if-is_below.false),
+  c.in_ok-lines.ensures.lines,
+)
 
 pub returns-clause-cut : goal.returns-clause-cut
 returns-clause-cut g c =
-    halved c.args.bound (g.F.ReadAt.bytes c.args.file.now) c.halves.low c.halves.high c.halves.invariant.0 (omega arith)
+    halving_ends c.args.bound (g.F.ReadAt.bytes c.args.file.now) c.halves.low c.halves.high c.halves.invariant.0 (omega arith)
     c.halves.invariant.1
 
 pub returns-clause-begins : goal.returns-clause-begins

@@ -2,6 +2,7 @@ use Rattle.std.proofs.Common.{false, inr, refl, sym, subst}
 use Rattle.std.proofs.lemmas.Result.{IfOk-weaker}
 use Rattle.osm_mirror.specs.declared.run.file_way.FileWay.{FileWay}
 use Rattle.osm_mirror.specs.declared.run.files_job.Order.TheVariants.{Any, Sorted}
+use Rattle.osm_mirror.specs.declared.run.input.ReadAs.TheVariants.{InOrder}
 use Rattle.osm_mirror.specs.declared.run.files_job.JobFile.{JobFile}
 use Rattle.osm_mirror.specs.run.FilesJob.{FileFits}
 use Rattle.osm_mirror.proofs.run_laws.WayLaws.{runs_sorted, runs_fit, held_fits}
@@ -13,7 +14,7 @@ returns-in-Some-clause-fits g c =
     let known = bytes c.in-File.file.now in
     let size = c.in_ok-size.size in
     let long = c.in_ok-size.ensures.size in
-    let way : FileWay = record { order = Sorted; runs = c.in-Some.runs; size = size; may_be_split = false } in
+    let way : FileWay = record { read_as = InOrder Sorted; runs = c.in-Some.runs; size = size; may_be_split = false } in
     subst (λ (x : JobFile _ _). FileFits bytes Any x way) (sym c.in-File.is) (
       inr (inr (
         refl,

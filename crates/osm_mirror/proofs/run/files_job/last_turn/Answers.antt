@@ -1,12 +1,9 @@
-use Rattle.std.proofs.Common.{◌≡◌, ◌∙◌, sym, subst, ap, refl, length}
-use Rattle.std.proofs.lemmas.Result.{err_from_is_err_and}
-use Rattle.osm_files.specs.Fault.{write_fault}
-use Rattle.osm_mirror.specs.declared.run.files_job.Order.{Order}
+use Rattle.std.proofs.Common.{inl, sym, subst, refl}
+use Rattle.std.proofs.lemmas.Result.{err_from_is_err_and, IfErr-weaker}
 use Rattle.osm_mirror.specs.declared.run.files_job.Order.TheVariants.{Any}
 use Rattle.osm_mirror.specs.run.FilesJob.{FilesFit}
 use Rattle.osm_mirror.specs.run.FilesRefusal.{AreRefused, AreSettled}
-use Rattle.osm_mirror.proofs.run_laws.TurnLaws.{stands_itself, file_refused, uncut_refused, settled_why, turn_undone, job_since}
-use Rattle.osm_mirror.proofs.run_laws.TurnLaws.{length_since}
+use Rattle.osm_mirror.proofs.run_laws.TurnLaws.{stands_itself, file_refused}
 use Rattle.osm_mirror.proofs.run.files_job.last_turn.Goals as goal
 
 pub returns-in_err-settled-clause-refused : goal.returns-in_err-settled-clause-refused
@@ -18,47 +15,15 @@ returns-in_err-settled-clause-refused g c =
     (subst (λ fs. AreRefused g.F.ReadAt.fails g.F.ReadAt.bytes g.R.Input.can_give Any fs c.in_err-settled.field-0.0)
     c.as_slice.ensures.value c.in_err-settled.ensures.refused))
 
-pub returns-in_err-start-clause-refused : goal.returns-in_err-start-clause-refused
-returns-in_err-start-clause-refused g c =
-    let p = err_from_is_err_and c.from_residual-in_err-start.result c.from_residual-in_err-start.ensures.1 in
-    rw (p.1, p.2)
-    (uncut_refused g.F.ReadAt.fails g.F.ReadAt.bytes g.R.Input.can_give g.W.Output c.args.job c.args.files.items c.args.out.now
-    c.requires.any c.length_of.new.out c.in_err-start.field-0.0
-    (c.in_err-start.ensures.fault ∙ ap (λ n. write_fault n 0) (ap length c.as_slice-number.ensures.value)) c.in_err-start.ensures.failed)
-
-pub run_turn-requires : goal.run_turn-requires
-run_turn-requires g c = record {
-  fit = subst (FilesFit g.F.ReadAt.bytes c.args.job.order c.args.files.items) (sym c.as_slice-2.ensures.value)
-      (subst (λ (o : Order). FilesFit g.F.ReadAt.bytes o c.args.files.items c.in_ok-settled.settled.items) (sym c.requires.any)
+pub run_or_undo-requires : goal.run_or_undo-requires
+run_or_undo-requires g c = record {
+  any = c.requires.any;
+  fit = subst (FilesFit g.F.ReadAt.bytes Any c.args.files.items) (sym c.as_slice-2.ensures.value)
       (subst (λ fs. FilesFit g.F.ReadAt.bytes Any fs c.in_ok-settled.settled.items) c.as_slice.ensures.value
-      c.in_ok-settled.ensures.fit));
+      c.in_ok-settled.ensures.fit);
 }
-
-pub returns-in-Ok-clause-written : goal.returns-in-Ok-clause-written
-returns-in-Ok-clause-written g c =
-    job_since g.F.ReadAt.bytes g.R.Input.can_give g.W.Output c.args.job c.args.files.items c.args.out.now c.length_of.new.out
-    c.run_turn.new.out c.in_ok-start.ensures.same c.in-Ok.counts c.in-Ok.ensures.written
-
-pub returns-in_err-cut_back-in-Err-clause-refused : goal.returns-in_err-cut_back-in-Err-clause-refused
-returns-in_err-cut_back-in-Err-clause-refused g c =
-    let p = err_from_is_err_and c.from_residual-in_err-cut_back-in-Err.result c.from_residual-in_err-cut_back-in-Err.ensures.1 in
-    rw (p.1, p.2)
-    (uncut_refused g.F.ReadAt.fails g.F.ReadAt.bytes g.R.Input.can_give g.W.Output c.args.job c.args.files.items c.args.out.now
-    c.requires.any c.cut_back.new.out c.in_err-cut_back-in-Err.field-0.0
-    (c.in_err-cut_back-in-Err.ensures.fault ∙ ap (λ n. write_fault n 0) (ap length c.as_slice-number.ensures.value))
-    c.in_err-cut_back-in-Err.ensures.failed)
 
 pub returns-clause-refused : goal.returns-clause-refused
 returns-clause-refused g c =
-    let O = g.W.Output in
-    let before = c.args.out.now in
-    let now = c.length_of.new.out in
-    let starts = c.in_ok-start.ensures.same in
-    let ways = c.as_slice-2.result.now in
     let settled = subst AreSettled (sym c.as_slice-2.ensures.value) (c.in_ok-settled.ensures.settled refl) in
-    turn_undone g.F.ReadAt.fails g.F.ReadAt.bytes g.R.Input.can_give O c.args.job c.args.files.items before c.requires.any now
-    c.run_turn.new.out c.cut_back.new.out c.in_ok-start.start starts
-    (length_since O before now starts c.in_ok-start.start c.in_ok-start.ensures.length)
-    c.run_turn.ensures.kept c.in_ok-cut_back-in-Err.ensures.cut c.in_ok-cut_back-in-Err.ensures.lasts ways c.in-Err.fault
-    (settled_why g.F.ReadAt.fails g.F.ReadAt.bytes g.R.Input.can_give O c.args.job c.args.files.items ways now
-    c.run_turn.new.out c.in-Err.fault c.in-Err.ensures.refused settled)
+    IfErr-weaker c.in_ok-run_or_undo.field-0 _ _ (λ fault decided. decided (inl settled)) c.in_ok-run_or_undo.ensures.decided

@@ -16,10 +16,10 @@ runs-preserved g c =
     let gives = FileInputCanGive g.F.ReadAt.fails g.F.ReadAt.bytes g.R.Input.can_give in
     let way = c.args.way.now in
     let Opens : InputFile _ → SortedRun → Type 0 =
-    OpensRun gives (g.F.ReadAt.fails c.args.file.now) (g.F.ReadAt.bytes c.args.file.now) way.size way.order in
+    OpensRun gives (g.F.ReadAt.fails c.args.file.now) (g.F.ReadAt.bytes c.args.file.now) way.size way.read_as in
     let index = c.runs.index in
     let run = c.index-run.result.now in
-    let file : InputFile _ = record { reader = Extent c.of_run.result; read_as = c.read_as-read_as.result; end = Any } in
+    let file : InputFile _ = record { reader = Extent c.of_run.result; read_as = way.read_as; end = Any } in
     let so_far = c.runs.invariant in
     let more : take (index + 1) way.runs.items ≡ take index way.runs.items ++ run ∷ [] =
     front_at way.runs.items index run (omega (arith, c.runs-test.true, c.len-index-end.ensures)) c.index-run.ensures in (
@@ -28,7 +28,7 @@ runs-preserved g c =
       subst (λ (rs : List SortedRun). Pairwise Opens (so_far.0 ++ file ∷ []) rs) (sym more)
           (pairwise_push Opens so_far.0 (take index way.runs.items) file run so_far.2 (record {
             gives_run = λ given x. (c.of_run.ensures given).0 x;
-            order_is = c.read_as-read_as.ensures;
+            read_as_is = refl;
             end_is = refl;
           })),
     )
@@ -38,7 +38,7 @@ returns-clause-added g c end =
     let gives = FileInputCanGive g.F.ReadAt.fails g.F.ReadAt.bytes g.R.Input.can_give in
     let way = c.args.way.now in
     let Opens : InputFile _ → SortedRun → Type 0 =
-    OpensRun gives (g.F.ReadAt.fails c.args.file.now) (g.F.ReadAt.bytes c.args.file.now) way.size way.order in
+    OpensRun gives (g.F.ReadAt.fails c.args.file.now) (g.F.ReadAt.bytes c.args.file.now) way.size way.read_as in
     let index = c.runs.index in
     let so_far = c.runs.invariant in
     let whole : take index way.runs.items ≡ way.runs.items =

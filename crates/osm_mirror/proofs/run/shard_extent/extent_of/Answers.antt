@@ -1,5 +1,6 @@
-use Rattle.std.proofs.Common.{arith, inl}
+use Rattle.std.proofs.Common.{◌≡◌, arith, inl, subst, IfSome}
 use Rattle.std.proofs.lemmas.Result.{err_from_is_err_and}
+use Rattle.osm_mirror.specs.run.ShardExtent.{is_read_whole}
 use Rattle.osm_mirror.proofs.run_laws.FileExtentLaws.{lines_part, whole_extent, cut_refuses, part_falls}
 use Rattle.osm_mirror.proofs.run.shard_extent.extent_of.Goals as goal
 
@@ -7,7 +8,9 @@ pub returns-clause-extent : goal.returns-clause-extent
 returns-clause-extent g c =
     let known = g.F.ReadAt.bytes c.args.file.now in
     lines_part known c.args.span c.in_ok-size.size c.in_ok-start.start c.in_ok-end.end
-    (c.in_ok-is_read_whole.ensures.lines c.if-branch.false) c.in_ok-size.ensures.size
+    (c.in_ok-is_read_whole.ensures.lines c.if-branch.false)
+    (subst (λ t. IfSome known (λ all. t ≡ is_read_whole all)) c.if-branch.false c.in_ok-is_read_whole.ensures.whole)
+    c.in_ok-size.ensures.size
     c.in_ok-start.ensures.begins c.in_ok-end.ensures.ends (omega (arith, c.if-end-start.false))
 
 pub returns-in_err-size-clause-refused : goal.returns-in_err-size-clause-refused
@@ -43,5 +46,8 @@ returns-then-end-start-clause-refused g c =
 
 pub returns-then-branch-clause-extent : goal.returns-then-branch-clause-extent
 returns-then-branch-clause-extent g c =
-    whole_extent (g.F.ReadAt.bytes c.args.file.now) c.args.span c.in_ok-size.size c.whole.result c.in_ok-size.ensures.size
+    let known = g.F.ReadAt.bytes c.args.file.now in
+    whole_extent known c.args.span c.in_ok-size.size c.whole.result
+    (subst (λ t. IfSome known (λ all. t ≡ is_read_whole all)) c.if-branch.true c.in_ok-is_read_whole.ensures.whole)
+    c.in_ok-size.ensures.size
     c.whole.ensures.whole

@@ -1,8 +1,10 @@
-use Rattle.std.proofs.Common.{List, ℕ, Option, Bor, refl}
+use Rattle.std.proofs.Common.{List, ℕ, Option, Bor, refl, subst}
 use Rattle.osm_files.specs.Change.{change_of}
 use Rattle.osm_merge.proofs.UnionLaws.{nothing_appended as at_first}
 use Rattle.std.proofs.lemmas.Result.{err_from_is_err_and}
+use Rattle.osm_merge.specs.declared.span.Span.{Span}
 use Rattle.osm_mirror.specs.run.Bounds.{shard_span}
+use Rattle.osm_mirror.specs.run.ShardsRead.{HasReadSpan}
 use Rattle.osm_mirror.proofs.run_laws.FileEndLaws.{shard_ends_refused, shard_span_refused}
 use Rattle.osm_mirror.proofs.run_laws.ShardJobLaws.{shard_is}
 use Rattle.osm_mirror.proofs.run_laws.SpanJobLaws.{first_refuses, nothing_cut}
@@ -10,9 +12,15 @@ use Rattle.osm_mirror.proofs.run.shard_job.run_shard.Goals as goal
 
 pub returns-in-Ok-write_span-clause-written : goal.returns-in-Ok-write_span-clause-written
 returns-in-Ok-write_span-clause-written g c all held have holds =
-    shard_is c.args.job all held c.in-Ok.span (c.in-Ok.ensures.span all held have holds)
+    shard_is c.args.job all held c.in-Ok.span (c.in-Ok.ensures.span all have)
     (change_of g.W.Output c.args.out.now c.write_span.new.out) c.in-Ok-write_span.counts (c.in-Ok-write_span.ensures.written all held have
     holds)
+
+pub returns-in-Ok-write_span-clause-read : goal.returns-in-Ok-write_span-clause-read
+returns-in-Ok-write_span-clause-read g c all have = record {
+  short = c.in-Ok.ensures.short all have;
+  read = subst (λ (s : Option Span). HasReadSpan s all) (c.in-Ok.ensures.span all have) (c.in-Ok-write_span.ensures.read all have);
+}
 
 pub returns-in_err-refuse_cut_files-clause-refused : goal.returns-in_err-refuse_cut_files-clause-refused
 returns-in_err-refuse_cut_files-clause-refused g c =
@@ -46,5 +54,5 @@ returns-in-Err-write_span-clause-refused g c =
     (first_refuses known fails job.end job.selection job.format (λ _. c.in-Ok.span) (shard_span job.shard.number job.shard.count)
     c.args.files.now
     (change_of g.W.Output c.args.out.now c.write_span.new.out) c.in-Err-write_span.fault _
-    (λ all held have holds. c.in-Ok.ensures.span all held have holds)
+    (λ all held have holds. c.in-Ok.ensures.span all have)
     c.first_fault-in-Err-write_span.ensures.file c.first_fault-in-Err-write_span.ensures.same c.in-Err-write_span.ensures.refused)

@@ -3,8 +3,8 @@ use Rattle.std.proofs.lemmas.Result.{IfErr-weaker}
 use Rattle.osm_files.specs.EndRule.{by_rule}
 use Rattle.osm_mirror.proofs.run.source.open_input.Goals as goal
 
-pub returns-in-Sorted-clause-refused : goal.returns-in-Sorted-clause-refused
-returns-in-Sorted-clause-refused g c =
+pub returns-in-InOrder-Sorted-clause-refused : goal.returns-in-InOrder-Sorted-clause-refused
+returns-in-InOrder-Sorted-clause-refused g c =
     let reader = c.args.file.reader in
     IfErr-weaker c.stream.result _ _
     (λ fault e. (

@@ -1,6 +1,6 @@
-//! Jobs for slices.
-use super::{Slice, SliceFile, run_slice};
-use osm_files::{Format, SliceIn, VecOut};
+//! Jobs over inputs within a span.
+use crate::run::{InputFile, ReadAs, run_selected};
+use osm_files::{EndRule, Format, SliceIn, VecOut};
 use osm_merge::{NoProgress, Outside, Selection, Span};
 use osm_model::{Kind, Object};
 use std::alloc::Global;
@@ -8,29 +8,35 @@ use std::alloc::Global;
 /// Versions of three nodes.
 const FILE: &[u8] = b"n1 v1 dD\nn2 v1 dD\nn3 v1 dD\n";
 
-/// The bytes that a job for the second node writes of a file, or the job's fault.
-fn slice_text(alloc: Global, file: &[u8], outside: Outside) -> String {
+/// What a job for the second node writes of a file, or the job's fault.
+fn within_text(alloc: Global, file: &[u8], outside: Outside) -> String {
     let mut text = String::new(alloc);
     let mut inputs = Vec::new(alloc);
-    let _ = inputs.push(SliceFile {
-        reader: SliceIn::new(file),
-        outside,
-    });
     let node = |id| {
         Some(Object {
             kind: Kind::Node,
             id,
         })
     };
-    let slice = Slice {
-        span: Span {
-            from: node(2),
-            to: node(3),
-        },
-        selection: Selection::All,
+    let span = Span {
+        from: node(2),
+        to: node(3),
     };
+    let _ = inputs.push(InputFile {
+        reader: SliceIn::new(file),
+        read_as: ReadAs::Within(span, outside),
+        end: EndRule::Any,
+    });
     let mut out = VecOut::new(alloc);
-    match run_slice(alloc, slice, inputs, Format::Opl, &mut out, &mut NoProgress) {
+    let outcome = run_selected(
+        alloc,
+        Selection::All,
+        inputs,
+        Format::Opl,
+        &mut out,
+        &mut NoProgress,
+    );
+    match outcome {
         Ok(counts) => {
             let _ = write!(text, "{} of {}", counts.written, out.into_vec().len());
         }
@@ -42,7 +48,7 @@ fn slice_text(alloc: Global, file: &[u8], outside: Outside) -> String {
 }
 
 #[test]
-fn slices_are_written(rt: HostRuntime) {
+fn versions_within_a_span_are_written(rt: HostRuntime) {
     for (file, outside, text) in [
         (FILE, Outside::Dropped, "1 of 25"),
         (FILE, Outside::Refused, "file 0, byte 0: Unsorted"),
@@ -58,6 +64,6 @@ fn slices_are_written(rt: HostRuntime) {
             "0 of 0",
         ),
     ] {
-        assert_eq!(rt; slice_text(rt.alloc(), file, outside).as_str(), text);
+        assert_eq!(rt; within_text(rt.alloc(), file, outside).as_str(), text);
     }
 }

@@ -1,6 +1,6 @@
 use Rattle.std.proofs.Common.{◌-◌}
 use Rattle.osm_files.proofs.FirstLaws.{Passed}
-use Rattle.osm_files.proofs.lines.first_key.Given as goal
+use Rattle.osm_files.proofs.lines.first_object.Given as goal
 
 abbrev pub invariant-fronts : goal.invariant-fronts
 invariant-fronts g l = Passed (g.F.ReadAt.bytes l.file) l.start l.end l.offset
