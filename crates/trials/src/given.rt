@@ -74,11 +74,6 @@ impl Given {
         Ok(self.word(index)?.parse::<u32>()?)
     }
 
-    /// The format that the word at the index `index` names.
-    pub fn format(&self, index: usize) -> Result<Format> {
-        format_of(self.word(index)?)
-    }
-
     /// The format and the pace of the output: the first word, such as `opl` or `o5m:1:20`.
     pub fn output(&self) -> Result<(Format, Pace)> {
         let mut parts = self.word(0)?.split(':');

@@ -6,8 +6,7 @@ use anyhow::{Result, bail};
 use osm_files::{CutBackOutput, EndRule, Fault, Format, FromRead, Output, ToWrite};
 use osm_merge::{Counts, NoProgress, Selection};
 use osm_mirror::{
-    FilesJob, JobFile, Order, Shard, ShardJob, run_apply, run_files, run_merge, run_period_filter,
-    run_shard, run_sort, run_time_filter,
+    FilesJob, JobFile, Order, Shard, ShardJob, run_apply, run_files, run_merge, run_shard, run_sort,
 };
 use std::alloc::Global;
 
@@ -16,8 +15,6 @@ use std::alloc::Global;
 pub const CALLS: &[&str] = &[
     "run_merge",
     "run_apply",
-    "run_time_filter",
-    "run_period_filter",
     "run_sort",
     "run_files",
     "run_files_sorted",
@@ -34,7 +31,6 @@ pub fn run_call(alloc: Global, call: &str, given: &Given) -> Result<Vec<u8>> {
     let mut taken = Vec::with_capacity(alloc, OUTPUT_CAPACITY)?;
     let mut out = ToWrite::new(Buffer::new(&mut taken, pace));
     let outcome = match call {
-        "run_time_filter" | "run_period_filter" => filter(alloc, call, given, format, &mut out)?,
         "run_shard" => write_shard(alloc, given, format, &mut out)?,
         "run_files" | "run_files_sorted" => write_files(alloc, call, given, format, &mut out)?,
         "run_streams" => write_streams(alloc, given, format, &mut out)?,
@@ -56,22 +52,6 @@ fn combine<W: Output>(
         "run_merge" => run_merge(alloc, inputs, format, out),
         "run_apply" => run_apply(alloc, inputs, false, format, out),
         _ => run_sort(alloc, inputs, format, out),
-    })
-}
-
-/// Runs a call that writes the versions of one file that were current at a time, or from one time up to another.
-fn filter<W: Output>(
-    alloc: Global,
-    call: &str,
-    given: &Given,
-    format: Format,
-    out: &mut W,
-) -> Result<Result<Counts, Fault>> {
-    let input = given.reader(0)?;
-    let time = given.time(1)?;
-    Ok(match call {
-        "run_time_filter" => run_time_filter(alloc, input, time, format, out),
-        _ => run_period_filter(alloc, input, time, given.time(2)?, format, out),
     })
 }
 

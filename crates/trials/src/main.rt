@@ -23,13 +23,7 @@ mod units;
 mod values;
 
 /// The names of the calls, module by module.
-const GROUPS: [&[&str]; 5] = [
-    values::CALLS,
-    units::CALLS,
-    streams::CALLS,
-    mirrors::CALLS,
-    jobs::CALLS,
-];
+const GROUPS: [&[&str]; 4] = [values::CALLS, streams::CALLS, mirrors::CALLS, jobs::CALLS];
 
 fn main(rt: HostRuntime) -> Result<()> {
     let words: Vec<String> = env::args(&rt)?.skip(1).collect(rt.alloc())?;
@@ -45,9 +39,6 @@ fn main(rt: HostRuntime) -> Result<()> {
 fn run_call(alloc: Global, call: &str, given: &Given) -> Result<Vec<u8>> {
     if values::CALLS.contains(&call) {
         return values::run_call(alloc, call, given);
-    }
-    if units::CALLS.contains(&call) {
-        return units::run_call(alloc, call, given);
     }
     if streams::CALLS.contains(&call) {
         return streams::run_call(alloc, call, given);

@@ -1,29 +1,21 @@
-//! Calls of mirrors, fleets and plans.
+//! Calls of mirrors and fleets.
 use crate::given::Given;
 use crate::printed::printed;
 use anyhow::{Result, bail};
 use osm_files::{Fault, Format};
-use osm_mirror::{Event, Fleet, Keep, Mirror, Reply, read_plan};
+use osm_mirror::{Event, Fleet, Keep, Mirror, Reply};
 use osm_model::Memory;
 use std::alloc::Global;
 
 /// The names of the calls of this module.
-pub const CALLS: &[&str] = &[
-    "Mirror::take",
-    "Mirror::copy",
-    "Mirror::write",
-    "Fleet::run",
-    "read_plan",
-];
+pub const CALLS: &[&str] = &["Mirror::take", "Mirror::copy", "Fleet::run"];
 
 /// The result of a call.
 pub fn run_call(alloc: Global, call: &str, given: &Given) -> Result<Vec<u8>> {
     match call {
         "Mirror::take" => take(alloc, given),
-        "Mirror::copy" => copy(alloc, given),
-        "Mirror::write" => Ok(full(alloc, given)?.write(given.format(0)?)?),
-        "Fleet::run" => run(alloc, given.file(0)?, given.file(1)?),
-        _ => plan(alloc, given.file(0)?),
+        "Mirror::copy" => copy(alloc, given.file(0)?),
+        _ => run(alloc, given.file(0)?, given.file(1)?),
     }
 }
 
@@ -34,15 +26,6 @@ fn mirror(alloc: Global, given: &Given) -> Result<Mirror> {
         "latest" => Ok(Mirror::new_latest(alloc)),
         _ => bail!("there is no such mirror"),
     }
-}
-
-/// A full mirror that took all files.
-fn full(alloc: Global, given: &Given) -> Result<Mirror> {
-    let mut mirror = Mirror::new_full(alloc);
-    for index in 0..given.count() {
-        mirror.take(given.file(index)?)?;
-    }
-    Ok(mirror)
 }
 
 /// The result of the take of the second file by a mirror that took the first one, and the history of the mirror after
@@ -67,9 +50,11 @@ fn is_equal(left: &Mirror, right: &Mirror) -> Result<bool, Fault> {
     Ok(left.as_slice() == right.as_slice())
 }
 
-/// The history of a copy of a full mirror.
-fn copy(alloc: Global, given: &Given) -> Result<Vec<u8>> {
-    Ok(full(alloc, given)?.copy()?.write(Format::Opl)?)
+/// The history of a copy of a full mirror that took a file.
+fn copy(alloc: Global, file: &[u8]) -> Result<Vec<u8>> {
+    let mut mirror = Mirror::new_full(alloc);
+    mirror.take(file)?;
+    Ok(mirror.copy()?.write(Format::Opl)?)
 }
 
 /// Runs events over two latest mirrors: each takes a file, each passes its history to the other, and the first one
@@ -144,16 +129,4 @@ fn fleet_lines(alloc: Global, fleet: &Fleet) -> Result<Vec<u8>> {
         lines.extend_from_slice(&fleet.mirror(index).write(Format::Opl)?)?;
     }
     Ok(lines)
-}
-
-/// The numbers of mirrors, steps and files of a plan.
-fn plan(alloc: Global, text: &[u8]) -> Result<Vec<u8>> {
-    let plan = read_plan(alloc, text)?;
-    let line = format!(in alloc;
-        "{} mirrors, {} steps, {} files",
-        plan.mirrors.len(),
-        plan.steps.len(),
-        plan.writes.len()
-    )?;
-    printed(alloc, line.as_str(), b"")
 }

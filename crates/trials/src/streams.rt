@@ -4,20 +4,19 @@ use crate::given::Given;
 use crate::printed::{history_of, line_of, lines_of, printed};
 use anyhow::{Result, bail};
 use osm_files::{Fault, FileSource, Format, Output, Sink, Source, ToWrite, load_any};
-use osm_merge::{Counts, merge_into};
+use osm_merge::Counts;
 use osm_model::History;
 use std::alloc::Global;
 
 /// The names of the calls of this module.
-pub const CALLS: &[&str] = &["load_any", "FileSource", "Sink", "merge_into"];
+pub const CALLS: &[&str] = &["load_any", "FileSource", "Sink"];
 
 /// The result of a call.
 pub fn run_call(alloc: Global, call: &str, given: &Given) -> Result<Vec<u8>> {
     match call {
         "load_any" => load(alloc, given),
         "FileSource" => read(alloc, given),
-        "Sink" => write(alloc, given),
-        _ => merge(alloc, given),
+        _ => write(alloc, given),
     }
 }
 
@@ -84,34 +83,6 @@ fn put_first<W: Output>(
         sink.put(out, history.get(0))?;
     }
     sink.end(out)
-}
-
-/// The result of a merge of sources, and its output.
-fn merge(alloc: Global, given: &Given) -> Result<Vec<u8>> {
-    let (format, pace) = given.output()?;
-    let mut taken = Vec::with_capacity(alloc, OUTPUT_CAPACITY)?;
-    let outcome = merge_files(
-        alloc,
-        given,
-        format,
-        &mut ToWrite::new(Buffer::new(&mut taken, pace)),
-    )?;
-    outcome_text(alloc, outcome, &taken)
-}
-
-/// Merges sources of the files.
-fn merge_files<W: Output>(
-    alloc: Global,
-    given: &Given,
-    format: Format,
-    out: &mut W,
-) -> Result<Result<Counts, Fault>> {
-    let mut sources = Vec::new(alloc);
-    for index in 0..given.count() {
-        sources.push(FileSource::new(alloc, index, given.reader(index)?)?)?;
-    }
-    let mut sink = Sink::new(alloc, format, given.count())?;
-    Ok(merge_into(alloc, sources, &mut sink, out))
 }
 
 /// The counts of a run, or why the run was refused, and then its output.

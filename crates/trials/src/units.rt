@@ -1,47 +1,9 @@
-//! Calls that read and write lines and data sets.
-use crate::given::Given;
-use crate::printed::{history_of, line_of, printed};
+//! The call that writes data sets.
+use crate::printed::{history_of, printed};
 use anyhow::{Result, bail};
-use o5_codec::{Decoder, EncodeFault, Encoder};
-use opl_line::{read_line, write_line};
+use o5_codec::{EncodeFault, Encoder};
 use osm_model::{History, Kind};
 use std::alloc::Global;
-
-/// The names of the calls of this module.
-pub const CALLS: &[&str] = &["read_line", "write_line", "read_set", "write_set"];
-
-/// The result of a call.
-pub fn run_call(alloc: Global, call: &str, given: &Given) -> Result<Vec<u8>> {
-    match call {
-        "read_line" => read(alloc, given.file(0)?),
-        "write_line" => write(alloc, given.file(0)?),
-        "read_set" => read_node(alloc, given.file(0)?),
-        _ => write_anew(alloc, given.file(0)?),
-    }
-}
-
-/// The canonical line of the version that `line` spells, or `skipped`.
-fn read(alloc: Global, line: &[u8]) -> Result<Vec<u8>> {
-    match read_line(alloc, line)? {
-        Some(version) => line_of(alloc, &version),
-        None => printed(alloc, "skipped", b""),
-    }
-}
-
-/// The canonical line of the first version of a file.
-fn write(alloc: Global, file: &[u8]) -> Result<Vec<u8>> {
-    let history = history_of(alloc, file)?;
-    if history.is_empty() {
-        bail!("there is no version");
-    }
-    Ok(write_line(alloc, history.get(0))?)
-}
-
-/// The line of the node that the content of a data set spells.
-fn read_node(alloc: Global, content: &[u8]) -> Result<Vec<u8>> {
-    let version = Decoder::new(alloc)?.read_set(Kind::Node, content)?;
-    line_of(alloc, &version)
-}
 
 /// The outcome of writing data sets.
 #[derive(Drop)]
@@ -57,7 +19,7 @@ enum Outcome {
 
 /// The data sets of a file. If a version is refused: why, why the encoder's next call is refused, and the data sets of
 /// a new encoder.
-fn write_anew(alloc: Global, file: &[u8]) -> Result<Vec<u8>> {
+pub fn write_anew(alloc: Global, file: &[u8]) -> Result<Vec<u8>> {
     let history = history_of(alloc, file)?;
     match write_sets(alloc, &history)? {
         Outcome::Written(sets) => Ok(sets),
