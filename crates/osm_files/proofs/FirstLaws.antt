@@ -26,7 +26,6 @@ use Rattle.osm_files.specs.Position.{fault_of}
 use Rattle.osm_files.specs.ReadAt.{AreAt}
 use Rattle.osm_files.specs.Stream.{Verdict}
 use Rattle.osm_files.specs.Units.{InOpl, units}
-use Rattle.osm_files.specs.Verdict.{versions_of}
 use Rattle.osm_files.proofs.KeyOrderLaws.{front_line, ended_lines, no_lines}
 use Rattle.osm_files.proofs.LineKeyLaws.{spelled_names}
 use Rattle.osm_files.proofs.LineStarts.{size_some}
@@ -35,11 +34,6 @@ use Rattle.osm_files.proofs.UnitLaws.{ReadsAs, opl_reads}
 reads_lines : (offset : ℕ) (bytes : List ℕ) → ReadsAs (units None InOpl offset bytes) (OplFile bytes)
 unfolding units
 reads_lines offset bytes = opl_reads (length bytes) bytes offset (omega arith)
-
--- the versions that are read in the lines of an OPL file are those that the file spells
-pub lines_read : (bytes : List ℕ) (versions : List VersionData) → OplFile bytes versions →
-    versions_of (units None InOpl 0 bytes).list ≡ versions
-lines_read bytes versions file = ((reads_lines 0 bytes).read versions file).1
 
 -- the lines of a file spell one list of versions
 pub one_opl : (bytes : List ℕ) (versions others : List VersionData) → OplFile bytes versions → OplFile bytes others → versions ≡ others

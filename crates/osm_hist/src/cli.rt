@@ -8,7 +8,7 @@ mod file_run;
 mod files;
 mod hint;
 mod input;
-mod part;
+mod out_part;
 mod plan_run;
 mod refusal;
 mod request;

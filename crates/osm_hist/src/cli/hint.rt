@@ -1,6 +1,6 @@
 //! Hints: one line after a refusal or a success, which says what to do.
 use super::files::STANDARD_INPUT;
-use super::part::{id_of_regular, is_of_job};
+use super::out_part::{id_of_regular, is_of_job};
 use super::{Host, Refusal};
 use osm_files::{Fault, Format, Reason};
 use osm_mirror::{

@@ -1,6 +1,6 @@
 //! Inputs of commands, each with the rule for its end. Their reads are watched.
 use super::files::{STANDARD_INPUT, Stamp, open};
-use super::part::FileId;
+use super::out_part::FileId;
 use super::request::InputFiles;
 use super::target::STANDARD;
 use super::{Host, Refusal};

@@ -4,7 +4,7 @@ ghost use Rattle.std.specs.List.{All};
 ghost use Rattle.osm_mirror.specs.fleet.Plan.{NamesItsMirrors};
 
 use super::files::read_file;
-use super::part::{FileId, id_of_regular, place_of};
+use super::out_part::{FileId, id_of_regular, place_of};
 use super::refusal::Refusal;
 use super::target::{STANDARD, Target, refuse_standard_output};
 use super::{Host, hint, print, write_whole};

@@ -1,7 +1,7 @@
 //! Requests: the arguments of a command over files, parsed, and the list that may have the names of the files.
 use super::command::{DEFAULT_FORMAT, FILE_OR_TIME, LIST};
 use super::files::{input_name, read_file, read_input};
-use super::part::FileId;
+use super::out_part::FileId;
 use super::target::{STANDARD, Target};
 use super::{Host, Refusal};
 use clap::ArgMatches;

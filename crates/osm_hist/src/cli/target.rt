@@ -3,7 +3,7 @@ ghost use Rattle.std.specs.Prelude.{◌≡◌, None, Err, OnOk, IfOk, MatchResul
 ghost use Rattle.either.specs.Either.{either};
 ghost use Rattle.osm_files.specs.CutBack.{IsCutBackIfKnown};
 
-use super::part::{FileId, OutPart, id_of_regular, is_named};
+use super::out_part::{FileId, OutPart, id_of_regular, is_named};
 use super::{Host, Refusal};
 use either::{Either, Left, Right};
 use osm_files::CutBack;
