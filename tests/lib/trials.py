@@ -147,7 +147,7 @@ ROWS = [
     Row("History::copy @pair.o5m", NODE + DELETION, behind(MEMORY_WORDS, NODE + DELETION)),
     *(Row(f"compare_all {rounds} @ties.opl", b"compared\n") for rounds in ROUNDS),
     Row("load_any @line", b"opl, sorted\n" + CANONICAL + b"\n"),
-    Row("write_set @pair.opl", NODE_SET + DELETION_SET, behind(b"out of memory, then failed before", NODE_SET + DELETION_SET)),
+    Row("write_set @pair.opl", NODE_SET + DELETION_SET, front_of(b"out of memory, then failed before", NODE_SET + DELETION_SET)),
     Row("load_any @pair.o5m", b"o5m, sorted\n" + NODE + DELETION),
     Row("load_any @unsorted.opl", b"opl, unsorted\n" + CREATED + CREATED.replace(b"n1", b"n2")),
     Row("FileSource @group.opl", b"whole\n" + EAST_10 + EAST_9,

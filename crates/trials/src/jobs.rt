@@ -32,8 +32,9 @@ pub fn run_call(alloc: Global, call: &str, given: &Given) -> Result<Vec<u8>> {
     let mut out = ToWrite::new(Buffer::new(&mut taken, pace));
     let outcome = match call {
         "run_shard" => write_shard(alloc, given, format, &mut out)?,
-        "run_files" | "run_files_sorted" => write_files(alloc, call, given, format, &mut out)?,
-        "run_streams" => write_streams(alloc, given, format, &mut out)?,
+        "run_files" | "run_files_sorted" | "run_streams" => {
+            write_files(alloc, call, given, format, &mut out)?
+        }
         _ => combine(alloc, call, given, format, &mut out)?,
     };
     outcome_text(alloc, outcome, &taken)
@@ -55,7 +56,7 @@ fn combine<W: Output>(
     })
 }
 
-/// Runs `run_files` over files that are read at offsets.
+/// Runs `run_files` over files that are read at offsets, or over streams.
 fn write_files<W: CutBackOutput>(
     alloc: Global,
     call: &str,
@@ -65,45 +66,26 @@ fn write_files<W: CutBackOutput>(
 ) -> Result<Result<Counts, Fault>> {
     let opened = given.paced_files(alloc)?;
     let mut files: Files<'_, '_> = Vec::new(alloc);
-    for file in &opened {
-        files.push(JobFile::File(file, EndRule::Any))?;
-    }
-    let order = if call == "run_files" {
-        Order::Any
+    if call == "run_streams" {
+        for reader in given.readers(alloc)? {
+            files.push(JobFile::Stream(reader, EndRule::Mark))?;
+        }
     } else {
-        Order::Sorted
-    };
-    Ok(run_files(alloc, all_of(order, format), files, out, &mut NoProgress))
-}
-
-/// Runs `run_files` over streams.
-fn write_streams<W: CutBackOutput>(
-    alloc: Global,
-    given: &Given,
-    format: Format,
-    out: &mut W,
-) -> Result<Result<Counts, Fault>> {
-    let mut files: Files<'_, '_> = Vec::new(alloc);
-    for reader in given.readers(alloc)? {
-        files.push(JobFile::Stream(reader, EndRule::Mark))?;
+        for file in &opened {
+            files.push(JobFile::File(file, EndRule::Any))?;
+        }
     }
-    Ok(run_files(
-        alloc,
-        all_of(Order::Any, format),
-        files,
-        out,
-        &mut NoProgress,
-    ))
-}
-
-/// The job that writes all versions of files of this order.
-fn all_of(order: Order, format: Format) -> FilesJob {
-    FilesJob {
+    let job = FilesJob {
         selection: Selection::All,
-        order,
+        order: if call == "run_files_sorted" {
+            Order::Sorted
+        } else {
+            Order::Any
+        },
         tries_largest: true,
         format,
-    }
+    };
+    Ok(run_files(alloc, job, files, out, &mut NoProgress))
 }
 
 /// Runs `run_shard` for the shard that the second word spells.

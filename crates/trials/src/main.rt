@@ -19,7 +19,6 @@ mod jobs;
 mod mirrors;
 mod printed;
 mod streams;
-mod units;
 mod values;
 
 /// The names of the calls, module by module.

@@ -3,19 +3,22 @@ use crate::device::{Buffer, OUTPUT_CAPACITY};
 use crate::given::Given;
 use crate::printed::{history_of, line_of, lines_of, printed};
 use anyhow::{Result, bail};
+use o5_codec::Encoder;
 use osm_files::{Fault, FileSource, Format, Output, Sink, Source, ToWrite, load_any};
 use osm_merge::Counts;
-use osm_model::History;
+use osm_model::{History, Kind};
 use std::alloc::Global;
+use std::fmt::Display;
 
 /// The names of the calls of this module.
-pub const CALLS: &[&str] = &["load_any", "FileSource", "Sink"];
+pub const CALLS: &[&str] = &["load_any", "FileSource", "Sink", "write_set"];
 
 /// The result of a call.
 pub fn run_call(alloc: Global, call: &str, given: &Given) -> Result<Vec<u8>> {
     match call {
         "load_any" => load(alloc, given),
         "FileSource" => read(alloc, given),
+        "write_set" => write_sets(alloc, given.file(0)?),
         _ => write(alloc, given),
     }
 }
@@ -46,16 +49,35 @@ fn read(alloc: Global, given: &Given) -> Result<Vec<u8>> {
     bail!("a source has no end")
 }
 
-/// Why a source was refused, why its next call was refused, and the versions that it had given.
-fn refused(alloc: Global, fault: Fault, then: Option<Fault>, lines: &[u8]) -> Result<Vec<u8>> {
+/// Why a call was refused, why the next one was refused, and the bytes that were there before.
+fn refused<E: Display>(alloc: Global, fault: E, then: Option<E>, bytes: &[u8]) -> Result<Vec<u8>> {
     let Some(then) = then else {
-        bail!("a source goes on that was refused");
+        bail!("a call goes on that was refused");
     };
-    printed(
-        alloc,
-        format!(in alloc; "{fault}, then {then}")?.as_str(),
-        lines,
-    )
+    let line = format!(in alloc; "{fault}, then {then}")?;
+    printed(alloc, line.as_str(), bytes)
+}
+
+/// The data sets of a file. If one is refused: why, why the encoder's next call is refused, and those before.
+fn write_sets(alloc: Global, file: &[u8]) -> Result<Vec<u8>> {
+    let history = history_of(alloc, file)?;
+    let mut encoder = Encoder::new(alloc)?;
+    let mut sets = Vec::new(alloc);
+    let mut last = Kind::Node;
+    for index in 0..history.len() {
+        let version = history.get(index);
+        if version.kind().index() < last.index() {
+            bail!("the kinds fall");
+        }
+        match encoder.write_set(version) {
+            Ok(set) => sets.extend_from_slice(&set)?,
+            Err(fault) => {
+                return refused(alloc, fault, encoder.write_set(version).err(), &sets);
+            }
+        }
+        last = version.kind();
+    }
+    Ok(sets)
 }
 
 /// The output of a sink for the first version of a file, and the fault of the sink, if there is one.

@@ -1,7 +1,6 @@
-//! Calls that make versions and histories, and that select versions of a history; and the one that writes data sets.
+//! Calls that make versions and histories, and that select versions of a history.
 use crate::given::Given;
 use crate::printed::{history_of, line_of, lines_of, printed};
-use crate::units::write_anew;
 use anyhow::{Result, bail};
 use osm_merge::{at, between, snapshot, visible};
 use osm_model::{Body, History, Meta, Tag, Tags, Text, Version};
@@ -19,7 +18,6 @@ pub const CALLS: &[&str] = &[
     "visible",
     "at",
     "between",
-    "write_set",
 ];
 
 /// The result of a call.
@@ -31,7 +29,6 @@ pub fn run_call(alloc: Global, call: &str, given: &Given) -> Result<Vec<u8>> {
         "History::join" => join(alloc, given.file(0)?, given.file(1)?),
         "History::copy" => copy_history(alloc, given.file(0)?),
         "compare_all" => compare_all(alloc, u64::from(given.time(0)?), given.file(0)?),
-        "write_set" => write_anew(alloc, given.file(0)?),
         _ => select(alloc, call, given),
     }
 }

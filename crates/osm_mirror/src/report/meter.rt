@@ -1,6 +1,6 @@
 //! Reports on standard error during a job and after it.
-use crate::report::job_summary::JobTally;
 use crate::report::bytes_read::{BytesRead, is_report_due};
+use crate::report::job_summary::JobTally;
 use osm_merge::{Counts, Progress, Relation};
 use osm_model::Version;
 use std::cell::{Cell, RefCell};

@@ -1,6 +1,6 @@
 use Rattle.std.proofs.Common.{ap, sym, ◌∙◌}
 use Rattle.o5_codec.specs.Encoder.{writer_after}
-use Rattle.trials.proofs.units.write_sets.Goals as goal
+use Rattle.trials.proofs.streams.write_sets.Goals as goal
 
 pub loop-index-preserved : goal.loop-index-preserved
 unfolding writer_after
