@@ -10,7 +10,7 @@ pub mod Tally
 pub mod Check
 pub mod SortedRuns
 pub mod Slices
-pub mod CutOffset
+pub mod Cut
 pub mod Shards
 pub mod FilesJob
 pub mod WaysJob

@@ -32,8 +32,8 @@ use Rattle.osm_files.proofs.StartLaws.{opl_starts}
 use Rattle.osm_merge.specs.Slice.{reaches, is_under}
 use Rattle.osm_mirror.specs.declared.run.lines_from.LinesFrom.{LinesFrom}
 use Rattle.osm_mirror.specs.run.Bounds.{first_object}
-use Rattle.osm_mirror.specs.run.CutOffset.{halved, cut_of, IsCutAt, IsCutOf, IsCutRefusal, BeginsLinesOf, BeginsAs}
-use Rattle.osm_mirror.specs.run.CutOffset.{IsUnderBefore, first_is_under}
+use Rattle.osm_mirror.specs.run.Cut.{halved, cut_of, IsCutAt, IsCutOf, IsCutRefusal, BeginsLinesOf, BeginsAs}
+use Rattle.osm_mirror.specs.run.Cut.{IsUnderBefore, first_is_under}
 use Rattle.osm_mirror.specs.run.LinesFrom.{AreLines, AreLinesOf, is_below}
 use Rattle.osm_mirror.proofs.run_laws.SplitLineLaws.{split_lines, split_versions, at_end}
 

@@ -29,7 +29,7 @@ use Rattle.osm_mirror.specs.declared.run.files_job.FilesJob.{FilesJob}
 use Rattle.osm_mirror.specs.declared.run.files_job.JobFile.{JobFile}
 use Rattle.osm_mirror.specs.declared.run.input.InputFile.{InputFile}
 use Rattle.osm_mirror.specs.declared.run.input.ReadAs.{ReadAs}
-use Rattle.osm_mirror.specs.run.CutOffset.{BeginsLines}
+use Rattle.osm_mirror.specs.run.Cut.{BeginsLines}
 use Rattle.osm_mirror.specs.run.Merge.{GivesSorted}
 use Rattle.osm_mirror.specs.run.Probes.{HaveBytes}
 use Rattle.osm_mirror.specs.run.ShardExtent.{is_read_whole, outside_if, begin_of, end_of, BeginsAt, EndsAt, lines_between, IsLinesWithin}

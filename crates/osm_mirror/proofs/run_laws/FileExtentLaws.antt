@@ -45,7 +45,7 @@ use Rattle.osm_files.proofs.SpellLaws.{equal_sets as equal}
 use Rattle.osm_mirror.specs.declared.run.shard_extent.FileExtent.{FileExtent}
 use Rattle.std.proofs.Common.{Result, Ok, Err, IfOk}
 use Rattle.osm_model.specs.declared.object.Object.{Object}
-use Rattle.osm_mirror.specs.run.CutOffset.{BeginsAs, BeginsLinesOf, IsCutOf, IsCutRefusal}
+use Rattle.osm_mirror.specs.run.Cut.{BeginsAs, BeginsLinesOf, IsCutOf, IsCutRefusal}
 use Rattle.osm_mirror.specs.run.ShardExtent.{is_read_whole, outside_if, lines_between, IsFileExtent, IsExtentOf, BeginsAtOf, EndsAtOf}
 use Rattle.osm_mirror.specs.run.Merge.{GivesSorted}
 use Rattle.osm_mirror.specs.run.ShardRefusal.{IsFileRefusal}

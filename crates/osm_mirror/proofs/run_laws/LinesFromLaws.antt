@@ -12,7 +12,7 @@ use Rattle.osm_files.specs.Opl.{OplFile}
 use Rattle.osm_files.proofs.JoinLaws.{split_pairs}
 use Rattle.osm_files.proofs.LineStarts.{start_lines, start_begins, start_within, starts_rise, one_start, end_begins}
 use Rattle.osm_mirror.specs.declared.run.lines_from.LinesFrom.{LinesFrom}
-use Rattle.osm_mirror.specs.run.CutOffset.{IsCutRefusal}
+use Rattle.osm_mirror.specs.run.Cut.{IsCutRefusal}
 use Rattle.osm_mirror.specs.run.LinesFrom.{AreLinesOf}
 use Rattle.osm_mirror.proofs.run_laws.SplitLineLaws.{split_lines, lines_split, split_versions, split_between, at_end}
 

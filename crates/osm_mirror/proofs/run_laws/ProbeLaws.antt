@@ -26,7 +26,7 @@ use Rattle.osm_mirror.specs.run.Bounds.{is_opl, opl_size, first_object, found_on
 use Rattle.osm_mirror.specs.run.Bounds.{found_in, total_weight}
 use Rattle.osm_mirror.specs.run.Bounds.{found_in_all}
 use Rattle.osm_mirror.specs.declared.run.lines_from.LinesFrom.{LinesFrom}
-use Rattle.osm_mirror.specs.run.CutOffset.{start_if, BeginsAs, IsCutRefusal}
+use Rattle.osm_mirror.specs.run.Cut.{start_if, BeginsAs, IsCutRefusal}
 use Rattle.osm_mirror.specs.run.LinesFrom.{AreLinesOf}
 use Rattle.osm_mirror.specs.run.Probes.{HaveBytes, IsTotal, FindsBy, FindsIn, FindsInAll}
 use Rattle.osm_mirror.specs.run.ShardExtent.{size_if_opl, IsOplSize, small_size, is_read_whole}

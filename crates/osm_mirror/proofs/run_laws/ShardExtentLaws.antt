@@ -30,7 +30,7 @@ use Rattle.osm_merge.specs.Slice.{slice_of, is_ascending, is_ascending_between, 
 use Rattle.osm_merge.proofs.SliceLaws.{kept_in}
 use Rattle.osm_merge.proofs.SelectedLaws.{pass_all}
 use Rattle.osm_files.proofs.SpellLaws.{equal_sets as equal}
-use Rattle.osm_mirror.specs.run.CutOffset.{IsUnderBefore}
+use Rattle.osm_mirror.specs.run.Cut.{IsUnderBefore}
 use Rattle.osm_mirror.specs.run.ShardExtent.{BeginsAt, EndsAt, IsPartWithin}
 use Rattle.osm_mirror.proofs.run_laws.CutLaws.{cuts_rise}
 use Rattle.osm_mirror.proofs.run_laws.SplitLineLaws.{SplitLines, split_versions, part_ends, part_whole}

@@ -15,7 +15,7 @@ use Rattle.osm_files.specs.Held.{HoldsSorted}
 use Rattle.osm_merge.specs.declared.span.Span.{Span}
 use Rattle.osm_merge.specs.Slice.{spans_from, spans, IsWithin}
 use Rattle.osm_mirror.specs.run.Bounds.{is_opl, opl_size, bounds_of, span_at}
-use Rattle.osm_mirror.specs.run.CutOffset.{cut_of}
+use Rattle.osm_mirror.specs.run.Cut.{cut_of}
 use Rattle.osm_mirror.specs.run.Job.{union_of}
 use Rattle.osm_mirror.specs.run.ShardExtent.{small_size, is_read_whole, begin_of}
 use Rattle.osm_mirror.specs.run.Shards.{parts_from, AreCutsFrom}

@@ -16,7 +16,7 @@ use Rattle.osm_mirror.specs.declared.run.files_job.JobFile.TheVariants.{File}
 use Rattle.osm_mirror.specs.declared.run.input.ReadAs.TheVariants.{Within}
 use Rattle.osm_mirror.specs.declared.run.shard_extent.FileExtent.{FileExtent}
 use Rattle.osm_mirror.specs.run.Bounds.{is_opl}
-use Rattle.osm_mirror.specs.run.CutOffset.{cut_of, IsCutAt, BeginsLines}
+use Rattle.osm_mirror.specs.run.Cut.{cut_of, IsCutAt, BeginsLines}
 
 -- the size of a file if it is OPL
 abbrev pub size_if_opl : List ℕ → Option ℕ

@@ -15,7 +15,7 @@ use Rattle.osm_merge.specs.declared.span.Span.{Span}
 use Rattle.osm_merge.specs.declared.selection.Selection.{Selection}
 use Rattle.osm_merge.specs.Selected.{selection_of}
 use Rattle.osm_merge.specs.Slice.{slices, spans, IsWithin}
-use Rattle.osm_mirror.specs.run.CutOffset.{BeginsLines}
+use Rattle.osm_mirror.specs.run.Cut.{BeginsLines}
 use Rattle.osm_mirror.specs.run.Job.{union_of}
 
 -- the extents of some bytes between offsets, in sequence, from the offset `start` on

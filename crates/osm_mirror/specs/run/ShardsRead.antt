@@ -8,7 +8,7 @@ use Rattle.osm_files.specs.Lines.{bytes_between}
 use Rattle.osm_merge.specs.declared.span.Span.{Span}
 use Rattle.osm_merge.specs.Slice.{IsWithin}
 use Rattle.osm_mirror.specs.run.Bounds.{opl_size, shard_span}
-use Rattle.osm_mirror.specs.run.CutOffset.{cut_of, BeginsLines}
+use Rattle.osm_mirror.specs.run.Cut.{cut_of, BeginsLines}
 use Rattle.osm_mirror.specs.run.ShardExtent.{is_read_whole, begin_of, end_of}
 
 -- the bytes are a sorted file

@@ -1,7 +1,7 @@
 //! The offset at which an OPL file is cut at an object, so that each of several jobs reads only its slice of the file.
 ghost use Rattle.std.specs.Prelude.{◌≡◌, IfOk, IfErr};
 ghost use Rattle.osm_files.specs.FileRuns.{IsReadFailure};
-ghost use Rattle.osm_mirror.specs.run.CutOffset.{IsCutOf, BeginsLinesOf, IsCutRefusal, BeginsAs};
+ghost use Rattle.osm_mirror.specs.run.Cut.{IsCutOf, BeginsLinesOf, IsCutRefusal, BeginsAs};
 ghost use Rattle.osm_mirror.specs.run.LinesFrom.{is_below};
 
 use crate::run::lines_from::{LinesFrom, lines_before};

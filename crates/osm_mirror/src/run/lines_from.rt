@@ -3,7 +3,7 @@
 //! Why: searches that look at earlier and earlier offsets read no stretch of a file again. All probes together read a
 //! file with 64 MB of comments about twice, and each of 64 probes read it before.
 ghost use Rattle.std.specs.Prelude.{◌≡◌, ◌≤◌, None, IfOk, IfErr};
-ghost use Rattle.osm_mirror.specs.run.CutOffset.{IsCutRefusal};
+ghost use Rattle.osm_mirror.specs.run.Cut.{IsCutRefusal};
 ghost use Rattle.osm_mirror.specs.run.LinesFrom.{AreLinesOf};
 
 use osm_files::{Fault, ReadAt, first_object, line_start};

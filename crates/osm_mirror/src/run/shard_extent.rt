@@ -2,7 +2,7 @@
 ghost use Rattle.std.specs.Prelude.{◌≡◌, true, false, length, IfOk, IfErr, IfSome};
 ghost use Rattle.osm_files.specs.FileRuns.{IsReadFailure};
 ghost use Rattle.osm_merge.specs.Slice.{is_ascending};
-ghost use Rattle.osm_mirror.specs.run.CutOffset.{BeginsAs, IsCutRefusal};
+ghost use Rattle.osm_mirror.specs.run.Cut.{BeginsAs, IsCutRefusal};
 ghost use Rattle.osm_mirror.specs.run.ShardExtent.{IsOplSize, BeginsAtOf, EndsAtOf, IsExtentOf};
 ghost use Rattle.osm_mirror.specs.run.ShardExtent as spec;
 ghost use Rattle.osm_mirror.specs.run.ShardRefusal.{IsFileRefusal};

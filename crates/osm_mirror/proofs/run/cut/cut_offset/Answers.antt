@@ -1,5 +1,5 @@
 use Rattle.std.proofs.Common.{◌≡◌, ◌+◌, ◌∙◌, IfSome, length, sym, subst, refl, arith}
-use Rattle.osm_mirror.specs.run.CutOffset.{BeginsAs}
+use Rattle.osm_mirror.specs.run.Cut.{BeginsAs}
 use Rattle.osm_mirror.proofs.run_laws.CutLaws.{halving_first, halving_low, halving_high, halving_ends, begins_of, o5_refusal}
 use Rattle.osm_mirror.proofs.run_laws.LinesFromLaws.{lines_at_end}
 use Rattle.osm_mirror.proofs.run.cut.cut_offset.Goals as goal

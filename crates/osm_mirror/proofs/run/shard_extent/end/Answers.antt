@@ -1,5 +1,5 @@
 use Rattle.std.proofs.Common.{IfOk, Some, sym, subst}
-use Rattle.osm_mirror.specs.run.CutOffset.{IsCutOf, BeginsLinesOf}
+use Rattle.osm_mirror.specs.run.Cut.{IsCutOf, BeginsLinesOf}
 use Rattle.osm_mirror.specs.run.ShardExtent.{EndsAtOf}
 use Rattle.osm_mirror.proofs.run_laws.FileExtentLaws.{both_ok, cut_ends}
 use Rattle.osm_mirror.proofs.run.shard_extent.end.Goals as goal
