@@ -50,7 +50,12 @@ fn read(alloc: Global, given: &Given) -> Result<Vec<u8>> {
 }
 
 /// Why a call was refused, why the next one was refused, and the bytes that were there before.
-fn refused<E: Display>(alloc: Global, fault: E, then: Option<E>, bytes: &[u8]) -> Result<Vec<u8>> {
+fn refused<E: Display + Drop>(
+    alloc: Global,
+    fault: E,
+    then: Option<E>,
+    bytes: &[u8],
+) -> Result<Vec<u8>> {
     let Some(then) = then else {
         bail!("a call goes on that was refused");
     };
