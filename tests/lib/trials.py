@@ -226,6 +226,10 @@ def in_room(trial):
     build()
     with tempfile.TemporaryDirectory() as folder:
         trials = Trials(folder)
+        # rt ci compares the same file. Each call that it names has a row.
+        names = (CRATE / "stdout").read_text()
+        trials.holds("the names of the calls", trials.run([])[1].decode() == names, names)
+        trials.holds("a row for each call", {row.words[0] for row in ROWS} == set(names.split()), names)
         trial(trials)
     trials.end()
 
